@@ -1,0 +1,1 @@
+// No code: the theorems on the wire format, in proofs/RoundTrip.antt.
