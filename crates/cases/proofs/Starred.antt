@@ -8,14 +8,18 @@ use Rattle.core.specs.Refusals.{numbered}
 use Rattle.storage.specs.Settings.{unitUpTo, programUnit, roundUp}
 use Rattle.frame.specs.declared.lengths.Size.{Size}
 use Rattle.frame.specs.declared.lengths.Size.the-variants.{Bytes, Refused}
+use Rattle.frame.specs.Format.{sealByte, sealFrom, sealOf}
 use Rattle.frame.specs.Lengths.{bodyLen, recordLen, payloadFits, withUnit, encodedLenFor}
 
 pub data Case : Type 0 where
   -- the record length for a payload's length, with a program unit
   recordFor : ℕ → ℕ → Case
+  -- the seal of a check, in a slot of one program unit
+  sealFor : ℕ → ℕ → Case
 
 pub data Result : Type 0 where
   bytes : ℕ → Result
+  slot : List ℕ → Result
   refused : ℕ → Result
 
 abbrev pub onSize : Size → Result
@@ -24,6 +28,7 @@ onSize (Refused e) = refused (numbered e .number)
 
 abbrev pub tried : Case → Result
 tried (recordFor p a) = onSize (encodedLenFor a p)
+tried (sealFor c a) = slot (sealOf a c)
 
 pub inputs : List Case
 inputs =
@@ -33,11 +38,22 @@ inputs =
     ∷ recordFor 1 4
     ∷ recordFor 65535 256
     ∷ recordFor 65536 256
+    ∷ sealFor 0x04030281 8
+    ∷ sealFor 0xffffffff 2
     ∷ []
 
 pub results : List Result
-results = bytes 17 ∷ bytes 20 ∷ bytes 512 ∷ bytes 24 ∷ bytes 66048 ∷ refused 5 ∷ []
+results =
+    bytes 17
+    ∷ bytes 20
+    ∷ bytes 512
+    ∷ bytes 24
+    ∷ bytes 66048
+    ∷ refused 5
+    ∷ slot (0x01 ∷ 0x02 ∷ 0x03 ∷ 0x04 ∷ 0x01 ∷ 0x02 ∷ 0x03 ∷ 0x04 ∷ [])
+    ∷ slot (0x7f ∷ 0x7f ∷ [])
+    ∷ []
 
 pub starred : map tried inputs ≡ results
-unfolding unitUpTo programUnit roundUp bodyLen recordLen payloadFits withUnit encodedLenFor inputs results
+unfolding unitUpTo programUnit roundUp bodyLen recordLen payloadFits withUnit encodedLenFor sealByte sealFrom inputs results
 starred = refl
