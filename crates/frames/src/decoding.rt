@@ -9,12 +9,12 @@ use crate::values::le64;
 use crate::values::rest;
 use core::record::Part;
 use core::record::RecordRef;
-use payload::Decoded;
 use decode::Decoding;
 use decode::Frame;
 use decode::FrameLen;
 use decode::decode;
 use decode::frame_len_of;
+use payload::Decoded;
 
 const NO_PART: Part = Part { place: 0, len: 0 };
 
