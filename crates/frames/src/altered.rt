@@ -40,7 +40,7 @@ fn bytes_agree(bytes: &[u8], by_decode: u8, by_len: u8, len: u64) -> bool {
     false
 }
 
-pub fn cuts(tally: Tally, v: &[u8]) -> Tally {
+pub(crate) fn cuts(tally: Tally, v: &[u8]) -> Tally {
     let frame = frame_of(v);
     let answers = answers_of(v);
     let len = le32(v, 5);
@@ -81,7 +81,7 @@ fn flip_agrees(frame: &[u8], bit: usize, by_decode: u8, by_len: u8, len: u64) ->
     bytes_agree(first(&a, frame.len()), by_decode, by_len, len)
 }
 
-pub fn flips(tally: Tally, v: &[u8]) -> Tally {
+pub(crate) fn flips(tally: Tally, v: &[u8]) -> Tally {
     let frame = first(frame_of(v), MOST);
     let answers = answers_of(v);
     let len = le32(v, 5);

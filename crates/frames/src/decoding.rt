@@ -170,7 +170,7 @@ fn decoding_agrees(v: &[u8], decoding: Decoding) -> bool {
 }
 
 // Whether the refusal (0 if there is none) and the length are the ones wanted.
-pub fn frame_len_agrees(answer: FrameLen, refusal: u8, len: u64) -> bool {
+pub(crate) fn frame_len_agrees(answer: FrameLen, refusal: u8, len: u64) -> bool {
     match answer {
         FrameLen::Bytes(n) => {
             if refusal == 0 {
@@ -190,7 +190,7 @@ fn bytes_of(v: &[u8]) -> &[u8] {
     rest(v, 9)
 }
 
-pub fn decode_agrees(v: &[u8]) -> bool {
+pub(crate) fn decode_agrees(v: &[u8]) -> bool {
     let bytes = bytes_of(v);
     if decoding_agrees(v, decode(bytes)) {
         return frame_len_agrees(frame_len_of(bytes), byte(v, 4), le32(v, 5));

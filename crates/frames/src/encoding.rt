@@ -97,7 +97,7 @@ fn page_agrees(page: &[u8], want: &[u8]) -> bool {
     want.len() <= page.len()
 }
 
-pub fn encode_agrees(v: &[u8]) -> bool {
+pub(crate) fn encode_agrees(v: &[u8]) -> bool {
     let mut page = [FILL; PAGE];
     let answer = encoded(v, &mut page);
     let want = rest(tail(v), le16(v, 56) as usize);

@@ -14,7 +14,7 @@ fn more(n: u32) -> u32 {
 }
 
 impl Tally {
-    pub fn new() -> Self {
+    pub(crate) fn new() -> Self {
         Tally {
             good: 0,
             bad: 0,
@@ -22,7 +22,7 @@ impl Tally {
         }
     }
 
-    pub fn with(self, agrees: bool) -> Self {
+    pub(crate) fn with(self, agrees: bool) -> Self {
         let good = self.good;
         let bad = self.bad;
         let first = self.first;

@@ -7,7 +7,7 @@ fn wide(b: u8) -> u64
     b as u64
 }
 
-pub fn byte(v: &[u8], at: usize) -> u8 {
+pub(crate) fn byte(v: &[u8], at: usize) -> u8 {
     if at < v.len() {
         return v[at];
     }
@@ -15,7 +15,7 @@ pub fn byte(v: &[u8], at: usize) -> u8 {
 }
 
 // All from a place on.
-pub fn rest(v: &[u8], at: usize) -> &[u8] {
+pub(crate) fn rest(v: &[u8], at: usize) -> &[u8] {
     if at < v.len() {
         return &v[at..];
     }
@@ -23,7 +23,7 @@ pub fn rest(v: &[u8], at: usize) -> &[u8] {
 }
 
 // The first n bytes, or all if there are fewer.
-pub fn first(v: &[u8], n: usize) -> &[u8] {
+pub(crate) fn first(v: &[u8], n: usize) -> &[u8] {
     if n < v.len() {
         return &v[0..n];
     }
@@ -31,21 +31,21 @@ pub fn first(v: &[u8], n: usize) -> &[u8] {
 }
 
 // The numbers at a place, least significant byte first.
-pub fn le16(v: &[u8], at: usize) -> u64
+pub(crate) fn le16(v: &[u8], at: usize) -> u64
     ensures { λ r. ⌜ r < 65536 ⌝ }
 {
     let t = rest(v, at);
     wide(byte(t, 0)) + wide(byte(t, 1)) * 256
 }
 
-pub fn le32(v: &[u8], at: usize) -> u64
+pub(crate) fn le32(v: &[u8], at: usize) -> u64
     ensures { λ r. ⌜ r < 4294967296 ⌝ }
 {
     let t = rest(v, at);
     le16(t, 0) + le16(t, 2) * 65536
 }
 
-pub fn le64(v: &[u8], at: usize) -> u64 {
+pub(crate) fn le64(v: &[u8], at: usize) -> u64 {
     let t = rest(v, at);
     le32(t, 0) + le32(t, 4) * 4294967296
 }
