@@ -1,38 +1,23 @@
 // Runs recovery over small regions and prints each step: a region of three records, the second never sealed; the same
 // with one bit of that slot programmed; a page that is too small; and the bytes of document 01 that it does not star.
-use core::error::Refusal;
+mod answers;
+mod out;
+
+use answers::answers;
+use answers::show_length;
 use core::id::EffectSeq;
 use core::record::Record;
 use core::record::RecordKind;
 use encode::encode;
-use libc::STDOUT_FILENO;
+use out::number;
+use out::refused;
+use out::text;
 use recovery::next::Answer;
 use recovery::next::Ending;
 use recovery::next::Found;
 use recovery::next::Recovery;
 use recovery::next::Stepped;
 use storage::geometry::Geometry;
-
-fn text(s: &[u8]) {
-    io::write_all(STDOUT_FILENO, s);
-}
-
-fn number(n: u64) {
-    text(b" ");
-    io::print_decimal(STDOUT_FILENO, n);
-}
-
-fn small(n: u8) {
-    number(n as u64);
-}
-
-fn wide(n: u32) {
-    number(n as u64);
-}
-
-fn size(n: usize) {
-    number(n as u64);
-}
 
 fn show_ending(e: Ending) {
     match e {
@@ -44,26 +29,20 @@ fn show_ending(e: Ending) {
     }
 }
 
-fn show_refusal(refusal: Refusal) {
-    text(b"refused");
-    small(refusal.number());
-    wide(refusal.needed());
-}
-
 fn show_found(found: Found) {
     let record = found.record;
     let said = record.record;
     let part = record.payload;
     let kind = said.kind();
     text(b"found at");
-    wide(found.offset);
+    number(found.offset as u64);
     text(b", kind");
-    small(kind.0);
+    number(kind.0 as u64);
     text(b", payload");
-    size(part.place);
-    size(part.len);
+    number(part.place as u64);
+    number(part.len as u64);
     text(b", length");
-    size(record.len);
+    number(record.len as u64);
 }
 
 fn show(x: Stepped) {
@@ -73,11 +52,11 @@ fn show(x: Stepped) {
     match answer {
         Answer::Found(found) => show_found(found),
         Answer::Ended => text(b"ended"),
-        Answer::Refused(refusal) => show_refusal(refusal),
+        Answer::Refused(refusal) => refused(refusal),
     }
     show_ending(ending);
     text(b" at");
-    wide(state.offset);
+    number(state.offset as u64);
     text(b"\n");
 }
 
@@ -144,19 +123,24 @@ fn three(region: &mut [u8; 96], page: &mut [u8; 96]) {
     fill(region);
     text(b"three records\n");
     steps(units(96, 4, 1), region, page);
+    answers(4, 1, region, page);
     slot(region, 255);
     text(b"the second never sealed\n");
     steps(units(96, 4, 1), region, page);
+    answers(4, 1, region, page);
     slot(region, 127);
     text(b"one bit of its slot programmed\n");
     steps(units(96, 4, 1), region, page);
+    answers(4, 1, region, page);
 }
 
 fn limits(region: &mut [u8; 40], page: &mut [u8; 15]) {
     text(b"r=16, N=40, page 15\n");
     steps(units(40, 4, 16), region, page);
+    answers(4, 16, region, page);
     text(b"a=3\n");
     steps(units(40, 3, 1), region, page);
+    answers(3, 1, region, page);
     text(b"N=41 held, 40 given\n");
     steps(units(41, 4, 1), region, page);
 }
@@ -168,4 +152,6 @@ fn main() {
     let mut blank = [255u8; 40];
     let mut little = [0u8; 15];
     limits(&mut blank, &mut little);
+    show_length(65535);
+    show_length(65536);
 }
