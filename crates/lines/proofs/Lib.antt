@@ -1,0 +1,2 @@
+-- The laws of a listing's lines.
+pub mod Pieces

@@ -1,0 +1,2 @@
+-- The definition of a listing's lines.
+pub mod Lines

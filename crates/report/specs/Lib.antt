@@ -1,0 +1,2 @@
+-- The definition of a listing.
+pub mod Report
