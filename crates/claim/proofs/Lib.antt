@@ -1,0 +1,9 @@
+-- The laws of demand 3, and the theorem.
+pub mod Bits
+pub mod Tears
+pub mod Calm
+pub mod Looks
+pub mod Passing
+pub mod Appends
+pub mod Demand3
+pub mod Instances
