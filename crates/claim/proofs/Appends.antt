@@ -18,7 +18,8 @@ use Rattle.frame.proofs.Numbers.{bytes-small}
 use Rattle.frame.proofs.Sizes.{body-mono, body-least}
 use Rattle.frame.specs.Lengths.{bodyLen, recordLen}
 use Rattle.frame.specs.Format.{sealedHeader, headerOf, coveredOf, checkOf, frameOf, paddingOf, bodyOf, recordOf, sealFrom, sealOf, sealHolds}
-use Rattle.seal.proofs.Seals.{seal-length, seal-byte-lt, holds-is, erased-no-seal}
+use Rattle.frame.proofs.Seal.{seal-byte-lt}
+use Rattle.seal.proofs.Seals.{seal-length, holds-is, erased-no-seal}
 use Rattle.encode.specs.Encode.{encodedBytes}
 use Rattle.decode.specs.declared.Header.{Header}
 use Rattle.decode.specs.declared.Header.the-variants.{Verified, Refused as NoHeader}
