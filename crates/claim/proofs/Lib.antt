@@ -4,6 +4,7 @@ pub mod Tears
 pub mod Calm
 pub mod Looks
 pub mod Passing
+pub mod Paged
 pub mod Appends
 pub mod Demand3
 pub mod Instances

@@ -1,18 +1,12 @@
 // The body is cut: bits of it, chosen by two of their numbers, are left old or are alone programmed.
-use crate::book::Book;
-use crate::book::Item;
-use crate::book::N;
 use crate::book::first;
 use crate::tally::Tally;
 use crate::tear::Left;
 use crate::tear::MOST;
 use crate::tear::left_mask;
-use crate::tear::loosen;
 use crate::trial::Came;
 use crate::trial::Cut;
-use crate::trial::prepare;
-use crate::trial::tried;
-use storage::media::read;
+use crate::trial::torn;
 
 fn one_body(
     cut: Cut,
@@ -24,18 +18,8 @@ fn one_body(
     page: &mut [u8],
 ) -> Came {
     let mask = left_mask(left, lo, hi);
-    let item = cut.item;
-    read(body, 0, N, region);
-    loosen(region, cut.at, first(&mask, cut.body));
-    tried(
-        cut.a,
-        Book {
-            item,
-            counts: false,
-        },
-        region,
-        page,
-    )
+    let bytes = first(&mask, cut.body);
+    torn(cut, false, body, cut.at, bytes, region, page)
 }
 
 // All first bits up to this last one.
@@ -58,7 +42,7 @@ fn up_to(
 }
 
 // All pairs of bits of the body.
-fn pairs(
+pub(crate) fn pairs(
     tally: Tally,
     cut: Cut,
     left: Left,
@@ -76,43 +60,4 @@ fn pairs(
         hi += 1;
     }
     t
-}
-
-fn prepared(
-    tally: Tally,
-    a: u32,
-    behind_lost: bool,
-    item: Item,
-    left: Left,
-    body: &mut [u8],
-    whole: &mut [u8],
-    page: &mut [u8],
-) -> Tally {
-    let cut = prepare(a, behind_lost, item, body, whole, page);
-    if cut.good {
-        return pairs(tally, cut, left, body, whole, page);
-    }
-    tally.with(Came::Differed)
-}
-
-fn bodies_at(tally: Tally, a: u32, behind_lost: bool, item: Item, left: Left) -> Tally {
-    let mut body = [255u8; N];
-    let mut whole = [255u8; N];
-    let mut page = [0u8; N];
-    prepared(
-        tally,
-        a,
-        behind_lost,
-        item,
-        left,
-        &mut body,
-        &mut whole,
-        &mut page,
-    )
-}
-
-// Behind a sealed record, and behind one that was never sealed.
-pub(crate) fn bodies(tally: Tally, a: u32, item: Item, left: Left) -> Tally {
-    let once = bodies_at(tally, a, false, item, left);
-    bodies_at(once, a, true, item, left)
 }

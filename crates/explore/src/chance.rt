@@ -1,22 +1,10 @@
-// The body is cut so that its header, or its whole frame, reads as that of another record, checks included.
-// The other one has every 1 bit of the record: that is rare, and is searched for from sequence 0 up.
-use crate::book::Book;
+// The body is cut so that its header, or its whole frame, reads as that of another record, checks included. Few records
+// can be cut so; they are searched for from sequence 0 up.
 use crate::book::Item;
-use crate::book::N;
-use crate::book::first;
-use crate::book::free_len;
-use crate::book::payload_bytes;
-use crate::book::record_of;
+use crate::cuts::Family;
+use crate::cuts::cuts;
+use crate::front::may_read_as;
 use crate::tally::Tally;
-use crate::tear::MOST;
-use crate::tear::covers;
-use crate::tear::loosen;
-use crate::trial::Came;
-use crate::trial::Cut;
-use crate::trial::prepare;
-use crate::trial::tried;
-use encode::encode;
-use storage::media::read;
 
 // How many sequences are tried.
 const BUDGET: u32 = 20000;
@@ -31,123 +19,6 @@ pub struct Pair {
     pub n: usize,
 }
 
-fn lay(item: Item, out: &mut [u8]) {
-    let bytes = payload_bytes(item.len);
-    encode(record_of(item), first(&bytes, free_len(item)), 1, out);
-}
-
-fn laid(item: Item) -> [u8; MOST] {
-    let mut out = [255u8; MOST];
-    lay(item, &mut out);
-    out
-}
-
-// Whether the first n bytes of one item may read as those of the other.
-fn may_read_as(item: Item, other: Item, n: usize) -> bool {
-    let x = laid(item);
-    let y = laid(other);
-    covers(first(&x, n), first(&y, n))
-}
-
-// The mask under which the first n bytes read as the item's, and behind them all bits or none are left old.
-fn mask_of(item: Item, n: usize, behind: u8) -> [u8; MOST] {
-    let mut a = laid(item);
-    let mut i: usize = 0;
-    while i < MOST {
-        if n <= i {
-            a[i] = behind;
-        }
-        i += 1;
-    }
-    a
-}
-
-fn one_front(cut: Cut, mask: &[u8], body: &[u8], region: &mut [u8], page: &mut [u8]) -> Came {
-    let item = cut.item;
-    read(body, 0, N, region);
-    loosen(region, cut.at, first(mask, cut.body));
-    tried(
-        cut.a,
-        Book {
-            item,
-            counts: false,
-        },
-        region,
-        page,
-    )
-}
-
-fn front(
-    cut: Cut,
-    other: Item,
-    n: usize,
-    behind: u8,
-    body: &[u8],
-    region: &mut [u8],
-    page: &mut [u8],
-) -> Came {
-    let mask = mask_of(other, n, behind);
-    one_front(cut, &mask, body, region, page)
-}
-
-// The rest of the body is programmed; and then, where there is one, it is not.
-fn both(
-    tally: Tally,
-    cut: Cut,
-    other: Item,
-    n: usize,
-    body: &[u8],
-    region: &mut [u8],
-    page: &mut [u8],
-) -> Tally {
-    let t = tally.with(front(cut, other, n, 0, body, region, page));
-    if n < cut.body {
-        return t.with(front(cut, other, n, 255, body, region, page));
-    }
-    t
-}
-
-fn prepared(
-    tally: Tally,
-    a: u32,
-    behind_lost: bool,
-    item: Item,
-    other: Item,
-    n: usize,
-    body: &mut [u8],
-    whole: &mut [u8],
-    page: &mut [u8],
-) -> Tally {
-    let cut = prepare(a, behind_lost, item, body, whole, page);
-    if cut.good {
-        return both(tally, cut, other, n, body, whole, page);
-    }
-    tally.with(Came::Differed)
-}
-
-fn fronts_at(tally: Tally, a: u32, behind_lost: bool, item: Item, other: Item, n: usize) -> Tally {
-    let mut body = [255u8; N];
-    let mut whole = [255u8; N];
-    let mut page = [0u8; N];
-    prepared(
-        tally,
-        a,
-        behind_lost,
-        item,
-        other,
-        n,
-        &mut body,
-        &mut whole,
-        &mut page,
-    )
-}
-
-// Behind a sealed record, and behind one that was never sealed.
-fn fronts(tally: Tally, a: u32, item: Item, other: Item, n: usize) -> Tally {
-    let once = fronts_at(tally, a, false, item, other, n);
-    fronts_at(once, a, true, item, other, n)
-}
-
 fn one_seq(tally: Tally, a: u32, pair: Pair, seq: u32) -> Tally {
     let item = Item {
         kind: pair.kind,
@@ -160,7 +31,7 @@ fn one_seq(tally: Tally, a: u32, pair: Pair, seq: u32) -> Tally {
         len: pair.as_len,
     };
     if may_read_as(item, other, pair.n) {
-        return fronts(tally, a, item, other, pair.n);
+        return cuts(tally, a, item, Family::Front(other, pair.n));
     }
     tally
 }

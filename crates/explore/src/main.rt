@@ -6,17 +6,19 @@
 mod body;
 mod book;
 mod chance;
+mod cuts;
+mod front;
 mod slot;
 mod tally;
 mod tear;
 mod trial;
 
-use body::bodies;
 use book::Item;
 use chance::frames;
 use chance::headers;
+use cuts::Family;
+use cuts::cuts;
 use libc::STDOUT_FILENO;
-use slot::slots;
 use tally::Tally;
 use tear::Left;
 
@@ -64,39 +66,33 @@ fn kept() -> Item {
     }
 }
 
-fn all_slots(a: u32) -> Tally {
-    let one = slots(Tally::new(), a, bare());
-    let two = slots(one, a, padded());
-    slots(two, a, kept())
-}
-
-fn all_bodies(a: u32, left: Left) -> Tally {
-    let one = bodies(Tally::new(), a, bare(), left);
-    let two = bodies(one, a, padded(), left);
-    bodies(two, a, kept(), left)
+fn all_items(a: u32, family: Family) -> Tally {
+    let one = cuts(Tally::new(), a, bare(), family);
+    let two = cuts(one, a, padded(), family);
+    cuts(two, a, kept(), family)
 }
 
 fn explore(a: u32) {
-    line(a, b" slot subsets: ", all_slots(a));
+    line(a, b" slot subsets: ", all_items(a, Family::Slots));
     line(
         a,
         b" body, one or two bits left old: ",
-        all_bodies(a, Left::Two),
+        all_items(a, Family::Bodies(Left::Two)),
     );
     line(
         a,
         b" body, one or two bits programmed: ",
-        all_bodies(a, Left::AllButTwo),
+        all_items(a, Family::Bodies(Left::AllButTwo)),
     );
     line(
         a,
         b" body, a run of bits left old: ",
-        all_bodies(a, Left::Run),
+        all_items(a, Family::Bodies(Left::Run)),
     );
     line(
         a,
         b" body, a run of bits programmed: ",
-        all_bodies(a, Left::AllButRun),
+        all_items(a, Family::Bodies(Left::AllButRun)),
     );
     line(a, b" body, its header check agrees by chance: ", headers(a));
     line(a, b" body, its frame check agrees by chance: ", frames(a));

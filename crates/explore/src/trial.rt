@@ -10,6 +10,7 @@ use crate::book::free_len;
 use crate::book::lost;
 use crate::book::payload_bytes;
 use crate::book::record_of;
+use crate::tear::loosen;
 use append::step::Advanced;
 use append::step::Progress;
 use append::step::commit;
@@ -212,9 +213,25 @@ fn opened(a: u32, book: Book, region: &mut [u8], page: &mut [u8]) -> Came {
 }
 
 // Tries a torn region.
-pub(crate) fn tried(a: u32, book: Book, region: &mut [u8], page: &mut [u8]) -> Came {
+fn tried(a: u32, book: Book, region: &mut [u8], page: &mut [u8]) -> Came {
     if agrees(a, book, false, region, page) {
         return opened(a, book, region, page);
     }
     Came::Differed
+}
+
+// Tears a copy of a region by a mask at a place, and tries it.
+pub(crate) fn torn(
+    cut: Cut,
+    counts: bool,
+    made: &[u8],
+    at: usize,
+    mask: &[u8],
+    region: &mut [u8],
+    page: &mut [u8],
+) -> Came {
+    let item = cut.item;
+    read(made, 0, N, region);
+    loosen(region, at, mask);
+    tried(cut.a, Book { item, counts }, region, page)
 }

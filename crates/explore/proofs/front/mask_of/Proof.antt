@@ -1,9 +1,9 @@
--- `explore::chance::mask_of` meets its contract: the loop counts up to the length of the mask.
+-- `explore::front::mask_of` meets its contract: the loop counts up to the length of the mask.
 -- Assumes nothing.
 use Prim.Native.Nat.{_≤_, _-_}
 use borrow.Author.Needs.{needs}
-use Rattle.explore.proofs.chance.mask_of.Statement.{statement}
-use Rattle.explore.proofs.chance.mask_of.Tie as tie
+use Rattle.explore.proofs.front.mask_of.Statement.{statement}
+use Rattle.explore.proofs.front.mask_of.Tie as tie
 
 abbrev Inv-loop : tie.InvT-loop
 Inv-loop n behind a₀ i₀ a i = i ≤ 28
