@@ -14,7 +14,6 @@ use Rattle.integrity.specs.Fcs.{headerCheck}
 use Rattle.storage.specs.Media.{erased, programmed}
 use Rattle.storage.proofs.ErasedBytes.{erased-is}
 use Rattle.frame.specs.Bytes.{bytesLE, valueLE, valueAt}
-use Rattle.frame.proofs.Numbers.{bytes-small}
 use Rattle.frame.proofs.Sizes.{body-mono, body-least}
 use Rattle.frame.specs.Lengths.{bodyLen, recordLen}
 use Rattle.frame.specs.Format.{sealedHeader, headerOf, coveredOf, checkOf, frameOf, paddingOf, bodyOf, recordOf, sealFrom, sealOf, sealHolds}
@@ -29,14 +28,14 @@ use Rattle.payload.specs.Payload.{part}
 use Rattle.place.specs.declared.Stand.the-variants.{Found}
 use Rattle.place.specs.Stands.{stands}
 use Rattle.roundtrip.specs.Typed.{AllBytes, Typed}
-use Rattle.roundtrip.proofs.Lists.{bytes-append, covered-bytes, payload-bytes}
+use Rattle.roundtrip.proofs.Lists.{bytes-append, number-bytes, covered-bytes, payload-bytes}
 use Rattle.roundtrip.proofs.Frames.{payload-size, payload-small, payload-back}
 use Rattle.roundtrip.proofs.RoundTrip.{Taken, body-length, encoded-length}
 use Rattle.append.specs.Append.{checkFor, bodyFor}
 use Rattle.claim.specs.Cuts.{Mixed, Cut}
 use Rattle.claim.specs.Saying.{Given, payloadFor, given}
 use Rattle.claim.proofs.Bits.{mixed-same, mixed-least}
-use Rattle.claim.proofs.Tears.{Blank, erased-blank, blank-erased, blank-drop, program-at, ands-blank, cut-rest, cut-split}
+use Rattle.claim.proofs.Tears.{replicate-bytes, Blank, erased-blank, blank-erased, blank-drop, program-at, ands-blank, cut-rest, cut-split}
 use Rattle.claim.proofs.Calm.{Calm}
 use Rattle.claim.proofs.Looks.{looked-whole, calm-unsealed, calm-torn}
 use Rattle.claim.proofs.Passing.{Passes, Shape, Ready, passes-both, passes-found, ready-shape}
@@ -70,9 +69,6 @@ getD-any (x ∷ s) zero h = refl
 getD-any (x ∷ s) (suc i) h = getD-any s i (omega arith)
 
 -- the bytes of a body and of a seal
-number-bytes : (w n : ℕ) → AllBytes (bytesLE w n)
-number-bytes w n i = bytes-small w n i
-
 pub body-bytes : (a : ℕ) (x : Given) → Typed (x .«record») (x .free) → AllBytes (bodyFor a (x .«record») (x .free))
 unfolding bodyOf frameOf paddingOf
 body-bytes a x t =
@@ -81,12 +77,7 @@ body-bytes a x t =
     let s : List ℕ = payloadFor x in
     bytes-append (coveredOf k q s ++ bytesLE 4 (checkOf k q s)) (replicate (bodyLen a (length s) - (16 + length s)) 255)
     (bytes-append (coveredOf k q s) (bytesLE 4 (checkOf k q s)) (covered-bytes k q s (t .kind) (payload-bytes (x .«record») (x .free) t)) (number-bytes 4 (checkOf k q s)))
-    (padding-bytes (bodyLen a (length s) - (16 + length s)))
-  where
-    padding-bytes : (n : ℕ) → AllBytes (replicate n 255)
-    padding-bytes zero i = omega arith
-    padding-bytes (suc n) zero = omega arith
-    padding-bytes (suc n) (suc i) = padding-bytes n i
+    (replicate-bytes (bodyLen a (length s) - (16 + length s)))
 
 blank-take : (n : ℕ) (t : List ℕ) → Blank t → Blank (take n t)
 blank-take zero t e i = refl

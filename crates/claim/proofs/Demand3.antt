@@ -26,11 +26,11 @@ use Rattle.recovery.specs.declared.next.Ending.the-variants.{Open, Clean, Damag
 use Rattle.recovery.specs.declared.next.Answer.{Answer}
 use Rattle.recovery.specs.declared.next.Answer.the-variants.{Found as OneMore, Ended, Refused as NoRecord}
 use Rattle.recovery.specs.Next.{fresh}
-use Rattle.recovery.proofs.Pages.{capacity-large}
+use Rattle.recovery.proofs.Pages.{front-bytes, capacity-large}
 use Rattle.finish.specs.Finish.{founds, toEnd}
 use Rattle.finish.specs.Course.{walk}
 use Rattle.finish.proofs.Walks.{Goes, run-without-page}
-use Rattle.roundtrip.specs.Typed.{Typed}
+use Rattle.roundtrip.specs.Typed.{AllBytes, Typed}
 use Rattle.roundtrip.proofs.Lists.{bytes-append}
 use Rattle.roundtrip.proofs.Frames.{payload-size}
 use Rattle.journal.specs.declared.WriteAmplification.{WriteAmplification}
@@ -43,38 +43,27 @@ use Rattle.append.specs.Append.{counts, plus, Left, checkFor, bodyFor, onDevice
 use Rattle.claim.specs.Cuts.{Cut}
 use Rattle.claim.specs.Saying.{Given, payloadFor, allGiven, allSaidIn}
 use Rattle.claim.specs.Events.{Call, opening, stage, barrier, commit, Event, call, cut, cutIn, Held, none, holds, Machine, machine, afterOpening, stepped, done, looseIn, TornIn, Way, nothing, under, Book, appends, closed, told, toldCut, wholeSeal, sealedIn, State, lost, step, run, Large, Allows, Valid, start}
-use Rattle.claim.proofs.Tears.{Bytes, cut-same, cut-bytes}
+use Rattle.claim.proofs.Tears.{replicate-bytes, cut-same, cut-bytes}
 use Rattle.claim.proofs.Looks.{skipped-local}
 use Rattle.claim.proofs.Passing.{Shape, Ready, passes-none, ready-shape, finds, opened-ready}
 use Rattle.claim.proofs.Appends.{Busy, busy-shape, torn-body, sealed, torn-whole, torn-part}
 
 -- programming leaves bytes
-ands-bytes : (t s : List ℕ) → Bytes t → Bytes (ands t s)
+ands-bytes : (t s : List ℕ) → AllBytes t → AllBytes (ands t s)
 unfolding ands
 ands-bytes [] s b i = b i
 ands-bytes (x ∷ t) [] b i = b i
 ands-bytes (x ∷ t) (y ∷ s) b zero = omega (arith, and-le-l x y, b 0)
 ands-bytes (x ∷ t) (y ∷ s) b (suc i) = ands-bytes t s (λ j. b (suc j)) i
 
-take-bytes : (n : ℕ) (t : List ℕ) → Bytes t → Bytes (take n t)
-take-bytes zero t b i = omega arith
-take-bytes (suc n) [] b i = b i
-take-bytes (suc n) (x ∷ t) b zero = b 0
-take-bytes (suc n) (x ∷ t) b (suc i) = take-bytes n t (λ j. b (suc j)) i
-
-drop-bytes : (n : ℕ) (t : List ℕ) → Bytes t → Bytes (drop n t)
+drop-bytes : (n : ℕ) (t : List ℕ) → AllBytes t → AllBytes (drop n t)
 drop-bytes zero t b i = b i
 drop-bytes (suc n) [] b i = b i
 drop-bytes (suc n) (x ∷ t) b i = drop-bytes n t (λ j. b (suc j)) i
 
-programmed-bytes : (t : List ℕ) (o : ℕ) (s : List ℕ) → Bytes t → Bytes (programmed t o s)
+programmed-bytes : (t : List ℕ) (o : ℕ) (s : List ℕ) → AllBytes t → AllBytes (programmed t o s)
 unfolding programmed
-programmed-bytes t o s b = bytes-append (take o t) (ands (drop o t) s) (take-bytes o t b) (ands-bytes (drop o t) s (drop-bytes o t b))
-
-pub replicate-bytes : (n : ℕ) → Bytes (replicate n 255)
-replicate-bytes zero i = omega arith
-replicate-bytes (suc n) zero = omega arith
-replicate-bytes (suc n) (suc i) = replicate-bytes n i
+programmed-bytes t o s b = bytes-append (take o t) (ands (drop o t) s) (front-bytes t o b) (ands-bytes (drop o t) s (drop-bytes o t b))
 
 -- n bytes with program unit a and read unit r, within their limits
 module _ (n a r : ℕ) (ok : allowed n a r ≡ true) where
@@ -91,7 +80,7 @@ module _ (n a r : ℕ) (ok : allowed n a r ≡ true) where
   -- a region of n bytes
   pub record Sound (s : List ℕ) : Type 0 where
     pub size : length s ≡ n
-    pub bytes : Bytes s
+    pub bytes : AllBytes s
 
   sound-cut : (s u t : List ℕ) → Sound s → Sound u → Cut s u t → Sound t
   sound-cut s u t x y c = record { size = c .long ∙ x .size; bytes = cut-bytes s u t (x .bytes) (y .bytes) c }

@@ -37,7 +37,8 @@ use Rattle.append.specs.Append.{counts, checkFor, bodyFor, onDevice, underWay, 
 use Rattle.claim.specs.Cuts.{bit, Mixed, Cut}
 use Rattle.claim.specs.Saying.{Given, Said, given, allGiven, allSaidIn}
 use Rattle.claim.specs.Events.{opening, stage, barrier, commit, Event, call, cut, cutIn, Held, none, holds, machine, done, TornIn, Way, nothing, under, State, wholeSeal, step, run, Large, Allows, Valid, start}
-use Rattle.claim.proofs.Demand3.{replicate-bytes, Sound, sound-programmed, opening-is, demand-3}
+use Rattle.claim.proofs.Tears.{replicate-bytes}
+use Rattle.claim.proofs.Demand3.{Sound, sound-programmed, opening-is, demand-3}
 
 -- timer fired, sequence 7
 abbrev pub fired : Given

@@ -6,11 +6,12 @@ use mathlib.Core.List.{List, [], _∷_, _++_}
 use Prim.Native.Nat.{ℕ, zero, suc, _+_, _≤_, _<_}
 use native.Mathlib.Omega.{arith}
 use lib.Dec.{eqb}
-use lib.ListN.{length, getD, take, drop, length-append, take-append-drop, List·getD-append}
+use lib.ListN.{length, getD, take, drop, replicate, length-append, take-append-drop, List·getD-append}
 use lib.Seq.{take-append-seam, drop-append-seam, getD-drop, getD-take, getD-append-add, ext-getD, length-take-le}
 use borrow.Author.Tests.{eqb-true, eq-eqb}
 use Rattle.storage.specs.Media.{erased, ands, programmed}
 use Rattle.storage.proofs.ErasedBytes.{erased-nil, erased-cons}
+use Rattle.roundtrip.specs.Typed.{AllBytes}
 use Rattle.claim.specs.Cuts.{Mixed, Cut}
 use Rattle.claim.proofs.Bits.{mixed-same, programmed-erased, mixed-byte}
 
@@ -67,11 +68,13 @@ module _ (f x y u : List ℕ) (c : Cut (f ++ x) (f ++ y) u) where
   pub cut-split : u ≡ f ++ drop (length f) u
   cut-split = sym (take-append-drop (length f) u) ∙ ap (λ l. l ++ drop (length f) u) front
 
--- every byte is below 256
-abbrev pub Bytes : List ℕ → Type 0
-Bytes s = (i : ℕ) → getD s i 0 < 256
+-- erased bytes are bytes
+pub replicate-bytes : (n : ℕ) → AllBytes (replicate n 255)
+replicate-bytes zero i = omega arith
+replicate-bytes (suc n) zero = omega arith
+replicate-bytes (suc n) (suc i) = replicate-bytes n i
 
-byte-over : (s : List ℕ) (i : ℕ) → Bytes s → getD s i 255 < 256
+byte-over : (s : List ℕ) (i : ℕ) → AllBytes s → getD s i 255 < 256
 byte-over [] i b = omega arith
 byte-over (x ∷ s) zero b = b 0
 byte-over (x ∷ s) (suc i) b = byte-over s i (λ j. b (suc j))
@@ -82,5 +85,5 @@ byte-under (x ∷ s) zero h = h
 byte-under (x ∷ s) (suc i) h = byte-under s i h
 
 -- a cut leaves bytes
-pub cut-bytes : (s u t : List ℕ) → Bytes s → Bytes u → Cut s u t → Bytes t
+pub cut-bytes : (s u t : List ℕ) → AllBytes s → AllBytes u → Cut s u t → AllBytes t
 cut-bytes s u t b d c i = byte-under t i (mixed-byte _ _ _ (byte-over s i b) (byte-over u i d) (c .bytes i))
