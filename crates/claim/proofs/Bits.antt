@@ -1,7 +1,7 @@
 -- Numbers by their bits: what a cut leaves of one byte.
 -- Assumes nothing.
 use mathlib.Core.Path.{_≡_, sym, ap, _∙_}
-use mathlib.Core.Logic.{_⊎_, ⊎-elim}
+use mathlib.Core.Logic.{_⊎_, inl, inr, ⊎-elim}
 use Prim.Native.Nat.{ℕ, suc, _/_, _%_, _^_, _≤_, _<_, min}
 use native.Mathlib.Nat.{mod-eq-of-lt}
 use native.Mathlib.Omega.{arith}
@@ -34,9 +34,13 @@ bits-same x y h =
 bit-and : (k x y : ℕ) → bit k (bitAnd x y) ≡ min (bit k x) (bit k y)
 bit-and k x y = ap (λ (m : ℕ). m % 2) (and-shr x y k ∙ and-step (x / 2 ^ k) (y / 2 ^ k)) ∙ omega arith
 
+-- each bit of what a cut leaves is the old one or the new one
+by-bit : (x y t : ℕ) → Mixed x y t → (k : ℕ) → (bit k t ≡ bit k x) ⊎ (bit k t ≡ bit k y)
+by-bit x y t m k = ⊎-elim (λ e. inl (cc e)) (λ e. inr (cc e)) (m .each k)
+
 -- a write that changes nothing leaves nothing to cut
 pub mixed-same : (x t : ℕ) → Mixed x x t → t ≡ x
-mixed-same x t m = bits-same t x (λ k. ⊎-elim (λ e. e) (λ e. e) (m .each k))
+mixed-same x t m = bits-same t x (λ k. ⊎-elim (λ e. e) (λ e. e) (by-bit x x t m k))
 
 -- an erased byte is programmed to what is given
 pub programmed-erased : (y : ℕ) → y < 256 → bitAnd 255 y ≡ y
@@ -47,10 +51,10 @@ bit-full k y h = omega (arith, ap (bit k) (sym (programmed-erased y h)) ∙ bit-
 
 -- a cut of an erased byte that was to become y leaves no less than y
 pub mixed-least : (y t : ℕ) → y < 256 → Mixed 255 y t → y ≤ t
-mixed-least y t h m = bits-le y t (λ k. ⊎-elim (λ e. omega (arith, e, bit-full k y h)) (λ e. omega arith) (m .each k))
+mixed-least y t h m = bits-le y t (λ k. ⊎-elim (λ e. omega (arith, e, bit-full k y h)) (λ e. omega arith) (by-bit 255 y t m k))
 
 -- a cut between two bytes leaves a byte
 pub mixed-byte : (x y t : ℕ) → x < 256 → y < 256 → Mixed x y t → t < 256
 mixed-byte x y t hx hy m =
-    let l : t ≤ 255 = bits-le t 255 (λ k. ⊎-elim (λ e. omega (arith, e, bit-full k x hx)) (λ e. omega (arith, e, bit-full k y hy)) (m .each k)) in
+    let l : t ≤ 255 = bits-le t 255 (λ k. ⊎-elim (λ e. omega (arith, e, bit-full k x hx)) (λ e. omega (arith, e, bit-full k y hy)) (by-bit x y t m k)) in
     omega arith
