@@ -1,0 +1,47 @@
+-- `answers::stepped::scan_step_by` meets its contract: one law for each answer.
+-- Assumes nothing.
+use Rattle.answers.proofs.Exits.{scan-found, scan-ended, scan-refused}
+use borrow.Author.Needs.{needs}
+use Rattle.answers.proofs.stepped.scan_step_by.Statement.{statement}
+use Rattle.answers.proofs.stepped.scan_step_by.Tie as tie
+
+scan-state-of-requires : tie.Need-scan-state-of-requires
+scan-state-of-requires c κs = search needs
+
+enum-known-answer : tie.Need-enum-known-answer
+enum-known-answer c = search needs
+
+found-as-requires : tie.Need-found-as-requires
+found-as-requires c κs = search needs
+
+returns : tie.Need-returns
+returns c = search (scan-found, scan-ended, scan-refused, needs)
+
+enum-told : tie.Need-enum-told
+enum-told c = search needs
+
+returns-2 : tie.Need-returns-2
+returns-2 c = search (scan-found, scan-ended, scan-refused, needs)
+
+enum-known-answer-2 : tie.Need-enum-known-answer-2
+enum-known-answer-2 c = search needs
+
+refused-by-requires : tie.Need-refused-by-requires
+refused-by-requires c κs = search needs
+
+returns-3 : tie.Need-returns-3
+returns-3 c = search (scan-found, scan-ended, scan-refused, needs)
+
+pub scan-step-by-spec : {M : Type 1} → statement M
+scan-step-by-spec =
+    tie.close
+    (tie.spec
+    scan-state-of-requires
+    enum-known-answer
+    found-as-requires
+    returns
+    enum-told
+    returns-2
+    enum-known-answer-2
+    refused-by-requires
+    returns-3)
