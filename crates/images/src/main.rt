@@ -76,7 +76,7 @@ fn show(region: &[u8]) {
 }
 
 fn first() {
-    let mut region = [255u8; 256];
+    let mut region = [255u8; 320];
     update(&mut region);
     show(&region);
 }
