@@ -5,17 +5,19 @@
 
 use crate::model::*;
 use crate::theirs::Theirs;
-use crate::{exhaustive, generate};
+use crate::{courses, exhaustive, generate, shapes};
 use std::collections::HashMap;
 
 const SEED: u64 = 1662;
 const CASE_LIMIT: usize = 4_000;
 const TOTAL_LIMIT: usize = 700_000;
+/// How many recoveries, scans and append lists are made to a shape.
+const SHAPED: [u64; 3] = [345, 322, 231];
 /// How often a feature is taken from long cases, and how many cases of each op there are in the end.
-const PER_FEATURE: usize = 2;
-const QUOTAS: [usize; 7] = [0, 250, 560, 900, 700, 720, 420];
+const PER_FEATURE: usize = 1;
+const QUOTAS: [usize; 7] = [0, 300, 480, 940, 520, 540, 270];
 /// Past the first of each feature only short cases of each op are taken.
-const SHORT: [usize; 7] = [0, 200, 230, 230, 330, 230, 450];
+const SHORT: [usize; 7] = [0, 120, 150, 150, 300, 200, 450];
 
 /// Something that a case shows: its op, what it is, and which.
 type Feature = (u8, &'static str, u32);
@@ -23,16 +25,21 @@ type Feature = (u8, &'static str, u32);
 /// The list, and how many cases of each op it holds.
 pub fn list() -> (Vec<u8>, [usize; 7]) {
     let mut list = List::default();
+    for (count, shaped) in SHAPED.into_iter().zip([shapes::recovery, shapes::scan, courses::append]) {
+        for number in 0..count {
+            list.offer(shaped(SEED, number), true);
+        }
+    }
     let mut number = 0_u64;
     exhaustive::each(&mut |case| {
         number += 1;
-        // A thin spread of the short inputs; the rest of the list is random.
+        // A thin spread of the short inputs.
         if number.is_multiple_of(997) {
-            list.offer(case);
+            list.offer(case, false);
         }
     });
     for number in 0..400_000 {
-        list.offer(generate::case(SEED, number));
+        list.offer(generate::case(SEED, number), false);
     }
     (list.bytes, list.counts)
 }
@@ -49,8 +56,8 @@ impl List {
         self.seen.get(feature).copied().unwrap_or(0)
     }
 
-    /// Takes a case that shows something seen too seldom, or a short one while its op's quota lasts.
-    fn offer(&mut self, case: Case) {
+    /// Takes a case that is wanted or shows something seen too seldom, or a short one while its op's quota lasts.
+    fn offer(&mut self, case: Case, wanted: bool) {
         let case = trimmed(case);
         let Some((op, arguments)) = question(&case) else { return };
         let answer = Theirs.answer(&case);
@@ -67,7 +74,7 @@ impl List {
         let often =
             features.iter().any(|feature| matches!(feature, (_, "refused", 1..)) && self.times(feature) > quota / 7);
         let count = &mut self.counts[usize::from(op)];
-        if !rare && (often || whole.len() > SHORT[usize::from(op)] || *count >= quota) {
+        if !wanted && !rare && (often || whole.len() > SHORT[usize::from(op)] || *count >= quota) {
             return;
         }
         *count += 1;

@@ -54,12 +54,12 @@ fn length_for(rng: &mut Rng) -> usize {
     }
 }
 
-fn seq(rng: &mut Rng) -> u32 {
+pub fn seq(rng: &mut Rng) -> u32 {
     if rng.one_in(4) { rng.number() as u32 } else { rng.below(4) as u32 }
 }
 
 /// A record that the Rust has a form for, with anything in the numbers that its kind lacks, and its free bytes.
-fn record(rng: &mut Rng, free_limit: usize) -> (Record, Vec<u8>) {
+pub fn record(rng: &mut Rng, free_limit: usize) -> (Record, Vec<u8>) {
     let kind = rng.between(1, 9) as u8;
     let numbers = rng.number();
     let clock_kind = if rng.one_in(12) { rng.number() as u8 } else { rng.between(1, 2) as u8 };
@@ -95,7 +95,7 @@ fn encode_case(rng: &mut Rng, align: u16) -> Case {
 }
 
 /// The bytes of a kind's numbers in its payload.
-fn fixed_len(kind: u8) -> usize {
+pub fn fixed_len(kind: u8) -> usize {
     match kind {
         1 | 9 => 4,
         2 => 8,
@@ -197,7 +197,7 @@ fn record_bytes(rng: &mut Rng, align: u16) -> Vec<u8> {
 }
 
 /// Leaves some of the bits at 1, as a cut does.
-fn tear(rng: &mut Rng, bytes: &mut [u8]) {
+pub fn tear(rng: &mut Rng, bytes: &mut [u8]) {
     let few = rng.one_in(2);
     for byte in bytes {
         let mut bits = rng.number() as u8;
@@ -270,7 +270,7 @@ fn region(rng: &mut Rng, units: Units) -> Vec<u8> {
     region
 }
 
-fn fit(region: &mut Vec<u8>, unit: u16) {
+pub fn fit(region: &mut Vec<u8>, unit: u16) {
     let len = bytes::round_up(region.len().max(1), unit);
     region.resize(len, 0xFF);
 }

@@ -1,6 +1,7 @@
 //! Both sides of the comparison, the inputs, and the fixed list; the two programs stand on these.
 
 pub mod bytes;
+pub mod courses;
 pub mod exhaustive;
 pub mod faults;
 pub mod fixed;
@@ -10,4 +11,5 @@ pub mod model;
 pub mod ours;
 pub mod rng;
 pub mod run;
+pub mod shapes;
 pub mod theirs;

@@ -82,7 +82,11 @@ barrier and commit; a barrier or commit after a stage that was refused with 12; 
 the program unit or one that does not divide N; the payload of a frame of unknown kind.";
 
     pub fn compare(plan: Plan) -> ExitCode {
-        println!("seed {}, {} random cases, one in {} of the short inputs", plan.seed, plan.random, plan.stride);
+        let short = match plan.stride {
+            1 => "every short input".to_string(),
+            stride => format!("one short input in {stride}"),
+        };
+        println!("{short} and {} random cases of seed {}", plan.random, plan.seed);
         let tally = run::compare(&Ours, &Theirs, plan);
         tally.print();
         println!("\n{NOT_COMPARED}");
