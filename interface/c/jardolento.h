@@ -163,7 +163,7 @@ struct jardolento_written {
 struct jardolento_journal {
     struct jardolento_geometry geometry;
     uint32_t offset;
-    uint8_t phase; /* 0 is ready; 1 is staged; 2 is confirmed */
+    uint8_t phase; /* 0 is ready; 1 is staged; 2 is confirmed; after any other no step follows */
     uint32_t body_len;
     uint32_t payload_len;
     uint32_t frame_crc;
