@@ -12,7 +12,7 @@ frame-by-requires : tie.Need-frame-by-requires
 frame-by-requires c κs = search needs
 
 returns : tie.Need-returns
-returns c = search (decoded-frame, decoded-refused, needs)
+returns c = search (decoded-frame, needs)
 
 enum-known-decoding-2 : tie.Need-enum-known-decoding-2
 enum-known-decoding-2 c = search needs
@@ -24,7 +24,7 @@ no-frame-for-requires : tie.Need-no-frame-for-requires
 no-frame-for-requires c κs = search needs
 
 returns-2 : tie.Need-returns-2
-returns-2 c = search (decoded-frame, decoded-refused, needs)
+returns-2 c = search (decoded-refused, needs)
 
 pub decoded-by-spec : {M : Type 1} → statement M
 decoded-by-spec =

@@ -15,7 +15,7 @@ frame-as-requires : tie.Need-frame-as-requires
 frame-as-requires c κs = search needs
 
 returns : tie.Need-returns
-returns c = search (frame-known, frame-unknown, needs)
+returns c = search (frame-known, needs)
 
 enum-known-decoded-2 : tie.Need-enum-known-decoded-2
 enum-known-decoded-2 c = search needs
@@ -27,7 +27,7 @@ frame-as-requires-2 : tie.Need-frame-as-requires-2
 frame-as-requires-2 c κs = search needs
 
 returns-2 : tie.Need-returns-2
-returns-2 c = search (frame-known, frame-unknown, needs)
+returns-2 c = search (frame-unknown, needs)
 
 pub frame-by-spec : {M : Type 1} → statement M
 frame-by-spec =

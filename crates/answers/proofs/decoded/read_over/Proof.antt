@@ -33,31 +33,31 @@ enum-known-found-8 : tie.Need-enum-known-found-8
 enum-known-found-8 c = search needs
 
 returns : tie.Need-returns
-returns c = search (over-run-started, over-effect-scheduled, over-effect-completed, over-effect-failed, over-timer-scheduled, over-timer-fired, over-run-completed, over-run-failed, over-version-marker, needs)
+returns c = search (over-run-started, needs)
 
 returns-2 : tie.Need-returns-2
-returns-2 c = search (over-run-started, over-effect-scheduled, over-effect-completed, over-effect-failed, over-timer-scheduled, over-timer-fired, over-run-completed, over-run-failed, over-version-marker, needs)
+returns-2 c = search (over-effect-scheduled, needs)
 
 returns-3 : tie.Need-returns-3
-returns-3 c = search (over-run-started, over-effect-scheduled, over-effect-completed, over-effect-failed, over-timer-scheduled, over-timer-fired, over-run-completed, over-run-failed, over-version-marker, needs)
+returns-3 c = search (over-effect-completed, needs)
 
 returns-4 : tie.Need-returns-4
-returns-4 c = search (over-run-started, over-effect-scheduled, over-effect-completed, over-effect-failed, over-timer-scheduled, over-timer-fired, over-run-completed, over-run-failed, over-version-marker, needs)
+returns-4 c = search (over-effect-failed, needs)
 
 returns-5 : tie.Need-returns-5
-returns-5 c = search (over-run-started, over-effect-scheduled, over-effect-completed, over-effect-failed, over-timer-scheduled, over-timer-fired, over-run-completed, over-run-failed, over-version-marker, needs)
+returns-5 c = search (over-timer-scheduled, needs)
 
 returns-6 : tie.Need-returns-6
-returns-6 c = search (over-run-started, over-effect-scheduled, over-effect-completed, over-effect-failed, over-timer-scheduled, over-timer-fired, over-run-completed, over-run-failed, over-version-marker, needs)
+returns-6 c = search (over-timer-fired, needs)
 
 returns-7 : tie.Need-returns-7
-returns-7 c = search (over-run-started, over-effect-scheduled, over-effect-completed, over-effect-failed, over-timer-scheduled, over-timer-fired, over-run-completed, over-run-failed, over-version-marker, needs)
+returns-7 c = search (over-run-completed, needs)
 
 returns-8 : tie.Need-returns-8
-returns-8 c = search (over-run-started, over-effect-scheduled, over-effect-completed, over-effect-failed, over-timer-scheduled, over-timer-fired, over-run-completed, over-run-failed, over-version-marker, needs)
+returns-8 c = search (over-run-failed, needs)
 
 returns-9 : tie.Need-returns-9
-returns-9 c = search (over-run-started, over-effect-scheduled, over-effect-completed, over-effect-failed, over-timer-scheduled, over-timer-fired, over-run-completed, over-run-failed, over-version-marker, needs)
+returns-9 c = search (over-version-marker, needs)
 
 pub read-over-spec : {M : Type 1} → statement M
 read-over-spec =

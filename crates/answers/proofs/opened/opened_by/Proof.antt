@@ -9,7 +9,7 @@ enum-known-opening : tie.Need-enum-known-opening
 enum-known-opening c = search needs
 
 returns : tie.Need-returns
-returns c = search (opened-journal, opened-refused, needs)
+returns c = search (opened-journal, needs)
 
 enum-known-opening-2 : tie.Need-enum-known-opening-2
 enum-known-opening-2 c = search needs
@@ -18,7 +18,7 @@ refused-by-requires : tie.Need-refused-by-requires
 refused-by-requires c κs = search needs
 
 returns-2 : tie.Need-returns-2
-returns-2 c = search (opened-journal, opened-refused, needs)
+returns-2 c = search (opened-refused, needs)
 
 pub opened-by-spec : {M : Type 1} → statement M
 opened-by-spec =

@@ -9,7 +9,7 @@ enum-known-len : tie.Need-enum-known-len
 enum-known-len c = search needs
 
 returns : tie.Need-returns
-returns c = search (frame-bytes, frame-refused, needs)
+returns c = search (frame-bytes, needs)
 
 enum-known-len-2 : tie.Need-enum-known-len-2
 enum-known-len-2 c = search needs
@@ -18,7 +18,7 @@ refused-by-requires : tie.Need-refused-by-requires
 refused-by-requires c κs = search needs
 
 returns-2 : tie.Need-returns-2
-returns-2 c = search (frame-bytes, frame-refused, needs)
+returns-2 c = search (frame-refused, needs)
 
 pub frame-length-by-spec : {M : Type 1} → statement M
 frame-length-by-spec =

@@ -9,7 +9,7 @@ enum-known-size : tie.Need-enum-known-size
 enum-known-size c = search needs
 
 returns : tie.Need-returns
-returns c = search (length-bytes, length-refused, needs)
+returns c = search (length-bytes, needs)
 
 enum-known-size-2 : tie.Need-enum-known-size-2
 enum-known-size-2 c = search needs
@@ -18,7 +18,7 @@ refused-by-requires : tie.Need-refused-by-requires
 refused-by-requires c κs = search needs
 
 returns-2 : tie.Need-returns-2
-returns-2 c = search (length-bytes, length-refused, needs)
+returns-2 c = search (length-refused, needs)
 
 pub length-by-spec : {M : Type 1} → statement M
 length-by-spec =

@@ -9,13 +9,13 @@ enum-known-finding : tie.Need-enum-known-finding
 enum-known-finding c = search needs
 
 returns : tie.Need-returns
-returns c = search (finding-at, finding-nowhere, finding-refused, needs)
+returns c = search (finding-at, needs)
 
 enum-told : tie.Need-enum-told
 enum-told c = search needs
 
 returns-2 : tie.Need-returns-2
-returns-2 c = search (finding-at, finding-nowhere, finding-refused, needs)
+returns-2 c = search (finding-nowhere, needs)
 
 enum-known-finding-2 : tie.Need-enum-known-finding-2
 enum-known-finding-2 c = search needs
@@ -24,7 +24,7 @@ refused-by-requires : tie.Need-refused-by-requires
 refused-by-requires c κs = search needs
 
 returns-3 : tie.Need-returns-3
-returns-3 c = search (finding-at, finding-nowhere, finding-refused, needs)
+returns-3 c = search (finding-refused, needs)
 
 pub finding-by-spec : {M : Type 1} → statement M
 finding-by-spec =

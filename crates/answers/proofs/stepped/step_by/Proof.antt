@@ -18,13 +18,13 @@ found-as-requires : tie.Need-found-as-requires
 found-as-requires c κs = search needs
 
 returns : tie.Need-returns
-returns c = search (step-found, step-ended, step-refused, needs)
+returns c = search (step-found, needs)
 
 enum-told : tie.Need-enum-told
 enum-told c = search needs
 
 returns-2 : tie.Need-returns-2
-returns-2 c = search (step-found, step-ended, step-refused, needs)
+returns-2 c = search (step-ended, needs)
 
 enum-known-answer-2 : tie.Need-enum-known-answer-2
 enum-known-answer-2 c = search needs
@@ -33,7 +33,7 @@ refused-by-requires : tie.Need-refused-by-requires
 refused-by-requires c κs = search needs
 
 returns-3 : tie.Need-returns-3
-returns-3 c = search (step-found, step-ended, step-refused, needs)
+returns-3 c = search (step-refused, needs)
 
 pub step-by-spec : {M : Type 1} → statement M
 step-by-spec =
