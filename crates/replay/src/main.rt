@@ -1,5 +1,7 @@
 // Replays a list of cases from standard input: answers of the Rust, stored with what it was asked. It asks our library
 // the same, and prints for each op how many answers agree and how many do not. A case that is cut short does not agree.
+// The list was made by the comparison's driver from the Rust alone: in compare, `cargo run --offline --release --bin
+// compare --no-default-features -- --fixed FILE`.
 //
 // A case is the length of the rest (2 bytes), at most 4,000, and the rest: op (1), what was asked, and the answer up to
 // the end. Numbers are little-endian. Pieces:
