@@ -1,0 +1,2 @@
+-- What the proofs of the three steps share.
+pub mod Lending
