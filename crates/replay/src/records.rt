@@ -5,6 +5,8 @@ use crate::values::le16;
 use crate::values::le32;
 use crate::values::le64;
 use crate::values::rest;
+use answers::decoded::NO_PART;
+use answers::decoded::read_as;
 use core::activity::ActivityKind;
 use core::id::EffectSeq;
 use core::record::Part;
@@ -15,8 +17,6 @@ use core::timer::ClockKind;
 use core::version::GateId;
 
 pub(crate) const RECORD_BYTES: usize = 38;
-
-const NO_PART: Part = Part { place: 0, len: 0 };
 
 pub(crate) fn record_at(v: &[u8], at: usize) -> Record {
     let t = rest(v, at);
@@ -33,81 +33,6 @@ pub(crate) fn record_at(v: &[u8], at: usize) -> Record {
         armed_at: le64(t, 26),
         gate: GateId(le16(t, 34) as u16),
         version: le16(t, 36) as u16,
-    }
-}
-
-fn with_workflow(plain: Record, kind: u16, version: u16) -> Record {
-    let mut record = plain;
-    record.workflow_kind = kind;
-    record.workflow_version = version;
-    record
-}
-
-fn with_activity(plain: Record, activity: ActivityKind, len: u16, check: u32) -> Record {
-    let mut record = plain;
-    record.activity = activity;
-    record.input_len = len;
-    record.input_crc = check;
-    record
-}
-
-fn with_timer(plain: Record, clock: ClockKind, deadline: u64, armed_at: u64) -> Record {
-    let mut record = plain;
-    record.clock_kind = clock;
-    record.deadline = deadline;
-    record.armed_at = armed_at;
-    record
-}
-
-fn with_gate(plain: Record, gate: GateId, version: u16) -> Record {
-    let mut record = plain;
-    record.gate = gate;
-    record.version = version;
-    record
-}
-
-// What a found record says, in the form in which one is given.
-fn as_given(record: RecordRef) -> Record {
-    let plain = Record::new(record.kind(), record.seq());
-    match record {
-        RecordRef::RunStarted {
-            workflow_kind,
-            workflow_version,
-            ..
-        } => return with_workflow(plain, workflow_kind, workflow_version),
-        RecordRef::EffectScheduled {
-            kind,
-            input_len,
-            input_crc,
-            ..
-        } => return with_activity(plain, kind, input_len, input_crc),
-        RecordRef::EffectCompleted { .. } => return plain,
-        RecordRef::EffectFailed { .. } => return plain,
-        RecordRef::TimerScheduled {
-            clock_kind,
-            deadline,
-            armed_at,
-            ..
-        } => return with_timer(plain, clock_kind, deadline, armed_at),
-        RecordRef::TimerFired { .. } => return plain,
-        RecordRef::RunCompleted { .. } => return plain,
-        RecordRef::RunFailed { .. } => return plain,
-        RecordRef::VersionMarker { gate, version, .. } => return with_gate(plain, gate, version),
-    }
-}
-
-// Where the free bytes of a found record stand, counted from its own first byte.
-fn free_part(record: RecordRef) -> Part {
-    match record {
-        RecordRef::RunStarted { input, .. } => return input,
-        RecordRef::EffectScheduled { .. } => return NO_PART,
-        RecordRef::EffectCompleted { result, .. } => return result,
-        RecordRef::EffectFailed { error, .. } => return error,
-        RecordRef::TimerScheduled { .. } => return NO_PART,
-        RecordRef::TimerFired { .. } => return NO_PART,
-        RecordRef::RunCompleted { result } => return result,
-        RecordRef::RunFailed { error } => return error,
-        RecordRef::VersionMarker { .. } => return NO_PART,
     }
 }
 
@@ -141,8 +66,9 @@ fn then_part(c: Compared, v: &[u8], part: Part) -> Compared {
 
 // FOUND.
 pub(crate) fn then_found(c: Compared, v: &[u8], record: RecordRef) -> Compared {
-    let said = then_record(c, v, as_given(record));
-    then_part(said, v, free_part(record))
+    let read = read_as(record);
+    let said = then_record(c, v, read.record);
+    then_part(said, v, read.free)
 }
 
 // FOUND of a kind that is not known.
