@@ -31,12 +31,15 @@ bits-same x y h =
     let b : y ≤ x = bits-le y x (λ k. omega (arith, h k)) in
     omega arith
 
-bit-and : (k x y : ℕ) → bit k (bitAnd x y) ≡ min (bit k x) (bit k y)
+pub bit-and : (k x y : ℕ) → bit k (bitAnd x y) ≡ min (bit k x) (bit k y)
 bit-and k x y = ap (λ (m : ℕ). m % 2) (and-shr x y k ∙ and-step (x / 2 ^ k) (y / 2 ^ k)) ∙ omega arith
+
+same-bit : (k t x : ℕ) → t ≡ x → bit k t ≡ bit k x
+same-bit k t x e = ap (bit k) e
 
 -- each bit of what a cut leaves is the old one or the new one
 by-bit : (x y t : ℕ) → Mixed x y t → (k : ℕ) → (bit k t ≡ bit k x) ⊎ (bit k t ≡ bit k y)
-by-bit x y t m k = ⊎-elim (λ e. inl (cc e)) (λ e. inr (cc e)) (m .each k)
+by-bit x y t m k = ⊎-elim (λ e. search (inl, inr, same-bit)) (λ e. search (inl, inr, same-bit)) (m .each k)
 
 -- a write that changes nothing leaves nothing to cut
 pub mixed-same : (x t : ℕ) → Mixed x x t → t ≡ x

@@ -1,102 +1,142 @@
--- Instances of demand 3, which show that its theorem speaks of something: lists of events over 40 bytes, with program
--- unit 4, read unit 1 and any page of at least 69,632 bytes, that are valid, and what each leaves.
+-- The instances hold: one computed test of the whole table, and laws that what is tested is so with every large page.
 -- Assumes nothing.
-use mathlib.Core.Path.{_≡_, refl, sym, ap, _∙_, subst}
-use mathlib.Core.Bool.{true, false}
-use mathlib.Core.Logic.{_⊎_, inl, inr}
-use mathlib.Core.List.{List, [], _∷_}
-use Prim.Native.Nat.{ℕ, zero, suc, _+_, _/_, _%_, _^_, _<_}
+use mathlib.Core.Path.{_≡_, refl, sym, ap, ap₂, _∙_, subst}
+use mathlib.Core.Bool.{Bool, true, false, not, cond, _&&_, false≢true, and-eq-true-iff}
+use mathlib.Core.Logic.{_⊎_, inl, inr, ⊎-elim}
+use mathlib.Core.List.{List, [], _∷_, map}
+use Prim.Native.Nat.{ℕ, zero, suc, _+_, _/_, _%_, _^_, _≤_}
 use native.Mathlib.Omega.{arith}
-use lib.ListN.{length, getD, drop, replicate, length-drop}
-use lib.Pow.{shr-shr, shr-le}
-use lib.Seq.{getD-drop}
-use borrow.Author.Tests.{le-ltb}
-use Rattle.core.specs.declared.error.Refusal.the-variants.{NotAppendable}
-use Rattle.core.specs.declared.«record».RecordRef.the-variants.{TimerFired}
-use Rattle.core.specs.Kinds.{oneOf, known, runScoped, hasFree, seqFits, freeFits, widths, numbersLen, clockFits, plainRecord}
-use Rattle.storage.specs.declared.geometry.Geometry.{Geometry}
+use lib.Bits.{bitAnd, bitXor, xor-shr, xor-add-and}
+use lib.Dec.{eqb, ltb}
+use lib.ListN.{length, getD, replicate}
+use lib.Pow.{shr-le, areBytes}
+use borrow.Author.Tests.{eqb-true, ltb-true, ltb-false, le-ltb}
+use Rattle.core.specs.declared.«record».Record.{Record}
+use Rattle.core.specs.Kinds.{oneOf, known, runScoped, hasFree, seqFits, freeFits, widths, numbersLen, clockKnown, clockFits}
 use Rattle.storage.specs.Settings.{unitUpTo, programUnit, readUnit, regionLength, allowed, roundUp}
 use Rattle.storage.specs.Media.{programmedFrom, erased, ands, programmed}
-use Rattle.storage.proofs.Programming.{programmed-length}
 use Rattle.integrity.specs.Fcs.{bitStep, bitSteps, octet, octets, fcs, headerCheck, frameCheck}
+use Rattle.frame.specs.declared.lengths.Size.{Size}
+use Rattle.frame.specs.declared.lengths.Size.the-variants.{Bytes as Long, Refused as NoLength}
 use Rattle.frame.specs.Bytes.{bytesLE, valueLE, fieldBytes, fields}
 use Rattle.frame.specs.Lengths.{bodyLen, recordLen, wellGiven, payloadFits, payloadLen}
-use Rattle.frame.specs.Format.{numbersOf, payloadOf, sealedHeader, headerOf, coveredOf, checkOf, frameOf, paddingOf, sealByte, sealFrom, sealOf, bodyOf, sealedFrom, sealHolds}
+use Rattle.frame.specs.Format.{numbersOf, payloadOf, sealedHeader, headerOf, coveredOf, checkOf, frameOf, paddingOf, sealByte, sealFrom, bodyOf, sealedFrom, sealHolds}
 use Rattle.payload.specs.Payload.{lengthFits, recordWith, wellFormed, bodyAt}
 use Rattle.decode.specs.Decode.{headerAt, frameLenOf, frameUnder, decoded}
 use Rattle.place.specs.Stands.{settled, judged, stride, shapeOf, stands}
 use Rattle.recovery.specs.Next.{fresh}
-use Rattle.finish.specs.Finish.{founds}
-use Rattle.finish.specs.Course.{courseBy, walk}
-use Rattle.roundtrip.specs.Typed.{Typed}
-use Rattle.journal.specs.declared.WriteAmplification.{WriteAmplification}
+use Rattle.finish.specs.Course.{Course, courseBy, walk}
+use Rattle.roundtrip.specs.Typed.{AllBytes, Typed}
 use Rattle.journal.specs.declared.Journal.{Journal}
-use Rattle.journal.specs.declared.Opening.the-variants.{Opened, Refused as NoJournal}
-use Rattle.journal.specs.Opening.{ready, opened}
-use Rattle.append.specs.Append.{counts, checkFor, bodyFor, onDevice, underWay, begins, staged, isNext, confirmed, barred, moved, committed}
+use Rattle.journal.specs.declared.Opening.{Opening}
+use Rattle.journal.specs.Opening.{openBy}
+use Rattle.append.specs.Append.{unitOf, roomOf, stagedWith, asStaged, onDevice, underWay, begins, staged, isNext, confirmed, barred, moved, committed}
 use Rattle.claim.specs.Cuts.{bit, Mixed, Cut}
-use Rattle.claim.specs.Saying.{Given, Said, given, allGiven, allSaidIn}
-use Rattle.claim.specs.Events.{opening, stage, barrier, commit, Event, call, cut, cutIn, Held, none, holds, machine, done, TornIn, Way, nothing, under, State, wholeSeal, step, run, Large, Allows, Valid, start}
-use Rattle.claim.proofs.Tears.{replicate-bytes}
-use Rattle.claim.proofs.Demand3.{Sound, sound-programmed, opening-is, demand-3}
+use Rattle.claim.specs.Saying.{Given, given, allGiven}
+use Rattle.claim.specs.Events.{Call, opening, stage, barrier, commit, Event, call, cut, cutIn, Held, none, holds, Machine, Verdict, Outcome, afterOpening, stepped, stepBy, done, Way, nothing, under, Book, told, State, sealedIn, called, cutOff, step, run, verdicts, Large, Stands, Allows, Valid, start}
+use Rattle.claim.specs.Promised.{Reads}
+use Rattle.claim.specs.Claim.{Exactly, units, after}
+use Rattle.claim.proofs.Bits.{bit-and}
+use Rattle.claim.proofs.Invariant.{Sound, opening-is, Inv, lost-inv, ready-inv, staged-inv, firm-inv, keeps, at-first, sound-of}
+use Rattle.claim.specs.Instances.{Entry, made, torn, tornIn, Row, lent, events, answers, Holds, AllHold, table, nine, nineSaid}
+use Rattle.claim.proofs.Demand3.{demand-3}
 
--- timer fired, sequence 7
-abbrev pub fired : Given
-fired = record { «record» = plainRecord (record { 0 = 6 }) (record { 0 = 7 }); free = [] }
+-- # The test
 
--- effect scheduled, sequence 1, its numbers all 0
-abbrev pub scheduled : Given
-scheduled = record { «record» = plainRecord (record { 0 = 2 }) (record { 0 = 1 }); free = [] }
+-- the page that it lends
+abbrev spare : List ℕ
+spare = replicate 64 0
 
--- 40 bytes, program unit 4, read unit 1
-abbrev pub units : Geometry
-units = record { bytes = 40; «program_size» = 4; «read_size» = 1 }
+abbrev opensBy : Course → Opening
+opensBy c = openBy (units 64 4 1) (c .at) (c .answer) (c .ending)
 
-allows : allowed 40 4 1 ≡ true
-unfolding allowed regionLength programUnit readUnit unitUpTo
-allows = refl
+-- what a call comes to, an opening by the walk without a page
+abbrev plainly : Machine → Call → Outcome
+plainly m (opening page) = let c : Course = walk 4 (m .region) 0 in afterOpening m (opensBy c)
+plainly m (stage x page) = done 4 1 m (stage x spare)
+plainly m barrier = done 4 1 m barrier
+plainly m commit = done 4 1 m commit
 
--- a list that is valid from s and leads to t
-record Leads (s : State) (es : List Event) (t : State) : Type 0 where
-  valid : Valid 4 1 s es
-  ends : run 4 1 s es ≡ t
+-- 0 where every number is within its type
+abbrev excess : Record → ℕ
+excess y =
+    y .kind .0 / 256 + y .seq .0 / 4294967296 + y .«workflow_kind» / 65536 + y .«workflow_version» / 65536
+    + y .activity .0 / 65536 + y .«input_len» / 65536 + y .«input_crc» / 4294967296 + y .«clock_kind» .0 / 256
+    + y .deadline / 18446744073709551616 + y .«armed_at» / 18446744073709551616 + y .gate .0 / 65536 + y .version / 65536
 
-stays : (s : State) → Leads s [] s
-unfolding run
-stays s = record { valid = _; ends = refl }
+abbrev typed : Given → Bool
+typed x = eqb (excess (x .«record»)) 0 && areBytes (x .free)
 
-goes : (s t u : State) (e : Event) (es : List Event) → Allows 4 1 s e → step 4 1 s e ≡ t → Leads t es u → Leads s (e ∷ es) u
-unfolding run
-goes s t u e es h f l = record { valid = (h, subst (λ x. Valid 4 1 x es) (sym f) (l .valid)); ends = ap (λ x. run 4 1 x es) f ∙ l .ends }
+abbrev isNothing : Way → Bool
+isNothing nothing = true
+isNothing (under x) = false
 
--- a write that a cut leaves whole
-whole : (s t : List ℕ) → length t ≡ length s → Cut s t t
-whole s t e = record { long = e; bytes = λ i. record { each = λ k. inr refl } }
+abbrev mayStand : Book → Call → Bool
+mayStand b (opening page) = isNothing (b .way)
+mayStand b (stage x page) = b .journal && typed x
+mayStand b barrier = b .journal
+mayStand b commit = b .journal
 
--- 40 erased bytes
-abbrev pub blank : List ℕ
-blank = replicate 40 255
+-- no bit of t differs from both that of x and that of y
+abbrev mixes : ℕ → ℕ → ℕ → Bool
+mixes x y t = eqb (bitAnd (bitXor t x) (bitXor t y)) 0
 
--- these with a record's body programmed at their start
-abbrev pub bodied : Given → List ℕ
-bodied x = programmed blank 0 (bodyFor 4 (x .«record») (x .free))
+abbrev mayLeave : List ℕ → List ℕ → List ℕ → Bool
+mayLeave [] [] [] = true
+mayLeave [] [] (t ∷ ts) = false
+mayLeave [] (y ∷ ys) ts = false
+mayLeave (x ∷ xs) [] ts = false
+mayLeave (x ∷ xs) (y ∷ ys) [] = false
+mayLeave (x ∷ xs) (y ∷ ys) (t ∷ ts) = mixes x y t && mayLeave xs ys ts
 
--- these with the seal of fired programmed behind its body
-abbrev pub sealed : List ℕ
-sealed = programmed (bodied fired) 16 (sealOf 4 (checkFor (fired .«record») (fired .free)))
+-- whether a list is valid, what its calls come to, and its book
+record Trace : Type 0 where
+  valid : Bool
+  verdicts : List Verdict
+  book : Book
 
-blank-sound : Sound 40 4 1 allows blank
-blank-sound = record { size = refl; bytes = replicate-bytes 40 }
+abbrev checked : Bool → Trace → Trace
+checked b z = record { valid = b && z .valid; verdicts = z .verdicts; book = z .book }
 
-bodied-sound : (x : Given) → Sound 40 4 1 allows (bodied x)
-bodied-sound x = sound-programmed 40 4 1 allows blank 0 (bodyFor 4 (x .«record») (x .free)) blank-sound
+abbrev answered : Verdict → Trace → Trace
+answered v z = record { valid = z .valid; verdicts = v ∷ z .verdicts; book = z .book }
 
-plain-typed : (k q : ℕ) → k < 256 → q < 4294967296 → Typed (plainRecord (record { 0 = k }) (record { 0 = q })) []
-unfolding plainRecord
-plain-typed k q hk hq =
+traced : State → List Entry → Trace
+traced s [] = record { valid = true; verdicts = []; book = s .book }
+traced s (made c v ∷ es) =
+    let o : Outcome = plainly (s .machine) c in
+    checked (mayStand (s .book) c) (answered (o .verdict) (traced (called s c o) es))
+traced s (torn t ∷ es) = checked (mayLeave (s .machine .base) (s .machine .region) t) (traced (cutOff s false t) es)
+traced s (tornIn c t ∷ es) =
+    let o : Outcome = plainly (s .machine) c in
+    checked (mayStand (s .book) c && mayLeave (s .machine .base) (o .after .region) t)
+    (traced (cutOff s (sealedIn 4 s c (o .verdict) t) t) es)
+
+abbrev tried : Row → Trace
+tried x = traced (start 64) (x .entries)
+
+abbrev expected : Row → Trace
+expected x = record { valid = true; verdicts = answers (x .entries); book = x .book }
+
+-- the whole table, computed
+tried-table : map tried table ≡ map expected table
+unfolding traced walk courseBy stands shapeOf erased programmedFrom programmed ands bitStep bitSteps octet octets fcs headerCheck frameCheck bytesLE valueLE fieldBytes fields bodyLen recordLen wellGiven payloadFits payloadLen numbersOf payloadOf sealedHeader headerOf coveredOf checkOf frameOf paddingOf sealByte sealFrom bodyOf sealedFrom sealHolds widths roundUp lengthFits recordWith wellFormed bodyAt headerAt frameLenOf frameUnder decoded settled judged stride known seqFits runScoped hasFree oneOf freeFits clockKnown clockFits numbersLen allowed regionLength programUnit readUnit unitUpTo asStaged onDevice underWay begins staged isNext confirmed barred moved committed
+tried-table = refl
+
+-- # What it tests is so
+
+bytes-are : (s : List ℕ) → areBytes s ≡ true → AllBytes s
+bytes-are [] h i = omega arith
+bytes-are (x ∷ s) h zero = ltb-true x 256 (and-eq-true-iff (ltb x 256) (areBytes s) .0 h .0)
+bytes-are (x ∷ s) h (suc i) = bytes-are s (and-eq-true-iff (ltb x 256) (areBytes s) .0 h .1) i
+
+typed-is : (x : Given) → typed x ≡ true → Typed (x .«record») (x .free)
+typed-is x h =
+    let both = and-eq-true-iff (eqb (excess (x .«record»)) 0) (areBytes (x .free)) .0 h in
+    let e : excess (x .«record») ≡ 0 = eqb-true (excess (x .«record»)) 0 (both .0) in
     record {
-      kind = hk;
-      seq = hq;
+      kind = omega arith;
+      seq = omega arith;
       workflow-kind = omega arith;
       workflow-version = omega arith;
       activity = omega arith;
@@ -107,243 +147,199 @@ plain-typed k q hk hq =
       armed-at = omega arith;
       gate = omega arith;
       version = omega arith;
-      free-bytes = λ i. omega arith;
+      free-bytes = bytes-are (x .free) (both .1);
     }
 
-abbrev at : List ℕ → List ℕ → Held → Way → List Given → State
-at s base j w bs = record { machine = machine s base j; book = record { way = w; records = bs } }
+nothing-is : (w : Way) → isNothing w ≡ true → w ≡ nothing
+nothing-is nothing h = refl
+nothing-is (under x) h = absurd (false≢true h)
 
--- a journal with x under way at 0, in phase k; its payload is p bytes long and its body n
-abbrev busy : ℕ → Given → ℕ → ℕ → WriteAmplification → Journal
-busy k x p n w = record { geometry = units; offset = 0; phase = k; «body_len» = n; «payload_len» = p; «frame_crc» = checkFor (x .«record») (x .free); written = w }
+-- where the bit of an exclusive or is 0, both have the same bit
+same-bit : (k x y : ℕ) → bit k (bitXor x y) ≡ 0 → bit k x ≡ bit k y
+same-bit k x y h = omega (arith, h, ap (λ (m : ℕ). m % 2) (xor-shr x y k), xor-add-and (x / 2 ^ k) (y / 2 ^ k))
 
--- what fired is found to say
-abbrev pub firedSaid : Said
-firedSaid = record { «record» = TimerFired (record { 0 = 7 }); payload = [] }
+mixes-is : (x y t : ℕ) → mixes x y t ≡ true → Mixed x y t
+mixes-is x y t h = record { each = λ k. ⊎-elim (λ e. search (inl, inr)) (λ e. search (inl, inr)) (go k (bit k (bitXor t x)) refl) } where
+  clear : (k : ℕ) → bit k (bitAnd (bitXor t x) (bitXor t y)) ≡ 0
+  clear k = ap (bit k) (eqb-true (bitAnd (bitXor t x) (bitXor t y)) 0 h) ∙ omega (arith, shr-le 0 k)
 
--- what a recovery with a page finds after a list
-abbrev pub foundAfter : List Event → List ℕ → List Said
-foundAfter es page = allSaidIn (run 4 1 (start 40) es .machine .region) (founds (fresh units) (run 4 1 (start 40) es .machine .region) page)
+  go : (k z : ℕ) → bit k (bitXor t x) ≡ z → (bit k t ≡ bit k x) ⊎ (bit k t ≡ bit k y)
+  go k zero e = inl (same-bit k t x e)
+  go k (suc z) e = inr (same-bit k t y (omega (arith, e, clear k, bit-and k (bitXor t x) (bitXor t y))))
 
--- the instances' lists
-abbrev pub one : List ℕ → List Event
-one page = call (opening page) ∷ call (stage fired page) ∷ call barrier ∷ call commit ∷ []
+cut-cons : (x y t : ℕ) (xs ys ts : List ℕ) → Mixed x y t → Cut xs ys ts → Cut (x ∷ xs) (y ∷ ys) (t ∷ ts)
+cut-cons x y t xs ys ts m c = record { long = ap suc (c .long); bytes = each } where
+  each : (i : ℕ) → Mixed (getD (x ∷ xs) i 255) (getD (y ∷ ys) i 255) (getD (t ∷ ts) i 255)
+  each zero = m
+  each (suc i) = c .bytes i
 
-abbrev pub cutAfter : Given → List ℕ → List Event
-cutAfter x page = call (opening page) ∷ call (stage x page) ∷ cut (bodied x) ∷ []
+cut-is : (s u t : List ℕ) → mayLeave s u t ≡ true → Cut s u t
+cut-is [] [] [] h = record { long = refl; bytes = λ i. record { each = λ k. inl refl } }
+cut-is [] [] (t ∷ ts) h = absurd (false≢true h)
+cut-is [] (y ∷ ys) ts h = absurd (false≢true h)
+cut-is (x ∷ xs) [] ts h = absurd (false≢true h)
+cut-is (x ∷ xs) (y ∷ ys) [] h = absurd (false≢true h)
+cut-is (x ∷ xs) (y ∷ ys) (t ∷ ts) h =
+    let both = and-eq-true-iff (mixes x y t) (mayLeave xs ys ts) .0 h in
+    cut-cons x y t xs ys ts (mixes-is x y t (both .0)) (cut-is xs ys ts (both .1))
 
-abbrev pub again : Given → List ℕ → List Event
-again x page = call (opening page) ∷ call (stage x page) ∷ cut (bodied x) ∷ call (opening page) ∷ []
+-- # The page does not matter
 
-abbrev pub cutWithin : List ℕ → List Event
-cutWithin page = call (opening page) ∷ call (stage fired page) ∷ call barrier ∷ cutIn commit sealed ∷ []
+allows : allowed 64 4 1 ≡ true
+unfolding allowed regionLength programUnit readUnit unitUpTo
+allows = refl
 
--- the states on the way
-abbrev ready₀ : State
-ready₀ = at blank blank (holds (ready units 0)) nothing []
+-- a journal at hand is one of 64 bytes
+abbrev Fits : Held → Type 0
+Fits none = Unit {0}
+Fits (holds j) = j .geometry .bytes ≡ 64
 
-abbrev staged₀ : Given → ℕ → ℕ → State
-staged₀ x p n = at (bodied x) blank (holds (busy 1 x p n (counts p n 1 0))) (under x) []
+fits-of : (s : State) → Inv 64 4 1 allows s → Fits (s .machine .held)
+fits-of s (lost-inv u bs x v) = _
+fits-of s (ready-inv u o w bs x v) = refl
+fits-of s (staged-inv base u o y w bs z x v) = refl
+fits-of s (firm-inv base u o y w bs x v) = refl
 
--- the body is confirmed; then its seal is programmed
-abbrev firm₀ : State
-firm₀ = at (bodied fired) (bodied fired) (holds (busy 2 fired 0 16 (counts 0 16 1 1))) (under fired) []
+cond-same : {A B : Type 0} (f : A → B) (b : Bool) {x y z w : A} → (b ≡ true → f x ≡ f z) → (b ≡ false → f y ≡ f w) → f (cond b x y) ≡ f (cond b z w)
+cond-same f true p q = p refl
+cond-same f false p q = q refl
 
-abbrev sealed₀ : State
-sealed₀ =
-    at sealed sealed
-    (holds (record { geometry = units; offset = 20; phase = 0; «body_len» = 0; «payload_len» = 0; «frame_crc» = 0; written = counts 0 20 2 2 }))
-    nothing (fired ∷ [])
+-- two pages that hold what the region holds
+module _ (m : Machine) (j : Journal) (x : Given) (p q : List ℕ) (hp : j .geometry .bytes ≤ length p) (hq : j .geometry .bytes ≤ length q) where
+  stages-same : stepped m (staged j (x .«record») (x .free) (m .region) p) ≡ stepped m (staged j (x .«record») (x .free) (m .region) q)
+  unfolding staged onDevice begins
+  stages-same =
+      cond-same (stepped m) (not (allowed (j .geometry .bytes) (unitOf j) (j .geometry .«read_size»))) (λ _. refl)
+      (λ _. cond-same (stepped m) (not (eqb (length (m .region)) (j .geometry .bytes))) (λ _. refl)
+      (λ _. cond-same (stepped m) (not (eqb (j .phase) 0)) (λ _. refl)
+      (λ _. go (payloadLen (x .«record») (length (x .free))))))
+    where
+      go : (z : Size) → stepped m (stagedWith j (x .«record») (x .free) (m .region) p z) ≡ stepped m (stagedWith j (x .«record») (x .free) (m .region) q z)
+      go (NoLength e) = refl
+      go (Long n) =
+          cond-same (stepped m) (ltb (roomOf j) (recordLen (unitOf j) n)) (λ _. refl)
+          (λ l.
+          let k : recordLen (unitOf j) n ≤ roomOf j = ltb-false (roomOf j) (recordLen (unitOf j) n) l in
+          rw (le-ltb (length p) (recordLen (unitOf j) n) (omega arith), le-ltb (length q) (recordLen (unitOf j) n) (omega arith)))
 
--- a cut that leaves a body whole
-abbrev cut₀ : Given → State
-cut₀ x = at (bodied x) (bodied x) none nothing []
-
-bodied-cut : (x : Given) → Cut blank (bodied x) (bodied x)
-bodied-cut x = whole blank (bodied x) (programmed-length blank 0 (bodyFor 4 (x .«record») (x .free)))
-
-cuts : (x : Given) (p n : ℕ) → step 4 1 (staged₀ x p n) (cut (bodied x)) ≡ cut₀ x
-unfolding step
-cuts x p n = refl
-
-confirms : step 4 1 (staged₀ fired 0 16) (call barrier) ≡ firm₀
-unfolding step barred onDevice isNext confirmed allowed regionLength programUnit readUnit unitUpTo
-confirms = rw (bodied-sound fired .size)
-
-commits : step 4 1 firm₀ (call commit) ≡ sealed₀
-unfolding step committed onDevice isNext moved allowed regionLength programUnit readUnit unitUpTo
-commits = rw (bodied-sound fired .size)
-
--- what a cut within the commit may leave: the seal whole
-torn : TornIn 4 1 (firm₀ .machine) commit sealed
-unfolding committed onDevice isNext allowed regionLength programUnit readUnit unitUpTo
-torn = rw (bodied-sound fired .size) (whole (bodied fired) sealed (programmed-length (bodied fired) 16 (sealOf 4 (checkFor (fired .«record») (fired .free)))))
-
-seal-whole : wholeSeal (firm₀ .machine .held) sealed ≡ true
-unfolding plainRecord programmed ands bitStep bitSteps octet octets fcs headerCheck frameCheck bytesLE fieldBytes bodyLen payloadOf sealedHeader headerOf coveredOf checkOf frameOf paddingOf sealByte sealFrom bodyOf sealedFrom sealHolds widths roundUp
-seal-whole = refl
-
-cut-whole : step 4 1 firm₀ (cutIn commit sealed) ≡ at sealed sealed none nothing (fired ∷ [])
-unfolding step committed onDevice isNext allowed regionLength programUnit readUnit unitUpTo
-cut-whole = rw (bodied-sound fired .size, seal-whole)
-
--- demand 3 where the book has fired alone
-fired-found : (es : List Event) → Valid 4 1 (start 40) es → run 4 1 (start 40) es .book .records ≡ fired ∷ [] → (other : List ℕ) → Large other → foundAfter es other ≡ firedSaid ∷ []
-unfolding given allGiven recordWith numbersOf payloadOf fieldBytes widths plainRecord
-fired-found es v e other k = demand-3 40 4 1 allows es v .finds-book other k ∙ ap allGiven e
-
+-- a large page
 module _ (page : List ℕ) (h : Large page) where
-  blank-opens : opened 4 1 blank page .opening ≡ Opened (ready units 0)
-  unfolding walk courseBy stands shapeOf erased programmedFrom
-  blank-opens = opening-is 40 4 1 allows blank page blank-sound h
+  stages-plainly : (m : Machine) (x : Given) (y : Held) → Fits y
+      → stepBy m y (λ j. staged j (x .«record») (x .free) (m .region) page) ≡ stepBy m y (λ j. staged j (x .«record») (x .free) (m .region) spare)
+  stages-plainly m x none f = refl
+  stages-plainly m x (holds j) f = stages-same m j x page spare (omega (arith, f, h)) (omega (arith, f))
 
-  opens₀ : step 4 1 (start 40) (call (opening page)) ≡ ready₀
-  unfolding step
-  opens₀ = rw blank-opens
+  -- what is done with it is what the test does
+  done-plainly : (m : Machine) → Sound 64 4 1 allows (m .region) → Fits (m .held) → (c : Call) → done 4 1 m (lent page c) ≡ plainly m c
+  done-plainly m x f (opening p) = ap (afterOpening m) (opening-is 64 4 1 allows (m .region) page x h)
+  done-plainly m x f (stage y p) = stages-plainly m y (m .held) f
+  done-plainly m x f barrier = refl
+  done-plainly m x f commit = refl
 
-  stages-fired : step 4 1 ready₀ (call (stage fired page)) ≡ staged₀ fired 0 16
-  unfolding step staged onDevice begins underWay plainRecord payloadLen payloadFits wellGiven known seqFits runScoped freeFits hasFree oneOf clockFits numbersLen widths bodyLen recordLen roundUp allowed regionLength programUnit readUnit unitUpTo
-  stages-fired = rw (le-ltb (length page) 20 (omega (arith, h)))
+  -- the book does not look at it
+  told-lent : (b : Book) (c : Call) (v : Verdict) → told b (lent page c) v ≡ told b c v
+  told-lent b (opening p) v = refl
+  told-lent b (stage x p) v = refl
+  told-lent b barrier v = refl
+  told-lent b commit v = refl
 
-  stages-scheduled : step 4 1 ready₀ (call (stage scheduled page)) ≡ staged₀ scheduled 8 24
-  unfolding step staged onDevice begins underWay plainRecord payloadLen payloadFits wellGiven known seqFits runScoped freeFits hasFree oneOf clockFits numbersLen widths bodyLen recordLen roundUp allowed regionLength programUnit readUnit unitUpTo
-  stages-scheduled = rw (le-ltb (length page) 28 (omega (arith, h)))
+  sealed-lent : (s : State) (c : Call) (v : Verdict) (t : List ℕ) → sealedIn 4 s (lent page c) v t ≡ sealedIn 4 s c v t
+  sealed-lent s (opening p) v t = refl
+  sealed-lent s (stage x p) v t = refl
+  sealed-lent s barrier v t = refl
+  sealed-lent s commit v t = refl
 
-  -- with no seal, the body of fired is passed, and that of scheduled stops the opening
-  bodied-opens : (opened 4 1 (bodied fired) page .opening ≡ Opened (ready units 20)) × (opened 4 1 (bodied scheduled) page .opening ≡ NoJournal NotAppendable)
-  unfolding walk courseBy stands shapeOf erased programmedFrom plainRecord programmed ands bitStep bitSteps octet octets fcs headerCheck frameCheck bytesLE valueLE fieldBytes fields bodyLen numbersOf payloadOf sealedHeader headerOf coveredOf checkOf frameOf paddingOf sealByte bodyOf sealedFrom sealHolds widths roundUp lengthFits recordWith wellFormed bodyAt headerAt frameLenOf frameUnder decoded settled judged stride known seqFits runScoped hasFree oneOf clockFits numbersLen
-  bodied-opens = (opening-is 40 4 1 allows (bodied fired) page (bodied-sound fired) h, opening-is 40 4 1 allows (bodied scheduled) page (bodied-sound scheduled) h)
+  -- a call that passes the test may stand
+  stand-is : (b : Book) (c : Call) → mayStand b c ≡ true → Stands b (lent page c)
+  stand-is b (opening p) e = (nothing-is (b .way) e, h)
+  stand-is b (stage x p) e =
+      let both = and-eq-true-iff (b .journal) (typed x) .0 e in
+      (both .0, h, typed-is x (both .1))
+  stand-is b barrier e = e
+  stand-is b commit e = e
 
-  staged-leads : (x : Given) (p n : ℕ) (es : List Event) (t : State) → Typed (x .«record») (x .free) → step 4 1 ready₀ (call (stage x page)) ≡ staged₀ x p n → Leads (staged₀ x p n) es t
-      → Leads (start 40) (call (opening page) ∷ call (stage x page) ∷ es) t
-  staged-leads x p n es t y e l =
-      goes (start 40) ready₀ t (call (opening page)) (call (stage x page) ∷ es) (refl, h) opens₀
-      (goes ready₀ (staged₀ x p n) t (call (stage x page)) es (_, h, y) e l)
+  -- a list is valid from s, and comes to what a trace says
+  record Says (s : State) (es : List Event) (z : Trace) : Type 0 where
+    valid : Valid 4 1 s es
+    comes : verdicts 4 1 s es ≡ z .verdicts
+    leaves : run 4 1 s es .book ≡ z .book
 
-  one-leads : Leads (start 40) (one page) sealed₀
-  one-leads =
-      staged-leads fired 0 16 (call barrier ∷ call commit ∷ []) sealed₀ (plain-typed 6 7 (omega arith) (omega arith)) stages-fired
-      (goes (staged₀ fired 0 16) firm₀ sealed₀ (call barrier) (call commit ∷ []) _ confirms
-      (goes firm₀ sealed₀ sealed₀ (call commit) [] _ commits (stays sealed₀)))
+  -- a call, and a cut, that may stand in s and lead to t
+  after-call : (s t : State) (c : Call) (v : Verdict) (es : List Event) (b : Bool) (z : Trace) → Stands (s .book) c → done 4 1 (s .machine) c .verdict ≡ v
+      → step 4 1 s (call c) ≡ t → Says t es z → Says s (call c ∷ es) (checked b (answered v z))
+  unfolding run verdicts
+  after-call s t c v es b z a e f y =
+      record {
+        valid = (a, subst (λ u. Valid 4 1 u es) (sym f) (y .valid));
+        comes = ap₂ (λ w ws. w ∷ ws) e (ap (λ u. verdicts 4 1 u es) f ∙ y .comes);
+        leaves = ap (λ u. run 4 1 u es .book) f ∙ y .leaves;
+      }
 
-  cut-leads : (x : Given) (p n : ℕ) (es : List Event) (t : State) → Typed (x .«record») (x .free) → step 4 1 ready₀ (call (stage x page)) ≡ staged₀ x p n → Leads (cut₀ x) es t
-      → Leads (start 40) (call (opening page) ∷ call (stage x page) ∷ cut (bodied x) ∷ es) t
-  cut-leads x p n es t y e l =
-      staged-leads x p n (cut (bodied x) ∷ es) t y e
-      (goes (staged₀ x p n) (cut₀ x) t (cut (bodied x)) es (bodied-cut x) (cuts x p n) l)
+  after-cut : (s t : State) (e : Event) (es : List Event) (b : Bool) (z : Trace) → verdicts 4 1 s (e ∷ es) ≡ verdicts 4 1 (step 4 1 s e) es → Allows 4 1 s e
+      → step 4 1 s e ≡ t → Says t es z → Says s (e ∷ es) (checked b z)
+  unfolding run
+  after-cut s t e es b z silent a f y =
+      record {
+        valid = (a, subst (λ u. Valid 4 1 u es) (sym f) (y .valid));
+        comes = silent ∙ ap (λ u. verdicts 4 1 u es) f ∙ y .comes;
+        leaves = ap (λ u. run 4 1 u es .book) f ∙ y .leaves;
+      }
 
-  -- an append of fired goes through, and the book has it
-  pub one-committed : Valid 4 1 (start 40) (one page) × (run 4 1 (start 40) (one page) .book .records ≡ fired ∷ [])
-  one-committed = (one-leads .valid, ap (λ s. s .book .records) (one-leads .ends))
+  -- a list that the test passes is valid, and comes to what the test says
+  traced-says : (s : State) (es : List Entry) → Inv 64 4 1 allows s → traced s es .valid ≡ true → Says s (events page es) (traced s es)
+  unfolding traced step run verdicts
+  traced-says s [] i e = record { valid = _; comes = refl; leaves = refl }
+  traced-says s (made c v ∷ es) i e =
+      let o : Outcome = plainly (s .machine) c in
+      let both = and-eq-true-iff (mayStand (s .book) c) (traced (called s c o) es .valid) .0 e in
+      let d : done 4 1 (s .machine) (lent page c) ≡ o = done-plainly (s .machine) (sound-of 64 4 1 allows s i) (fits-of s i) c in
+      let a : Stands (s .book) (lent page c) = stand-is (s .book) c (both .0) in
+      let f : step 4 1 s (call (lent page c)) ≡ called s c o =
+      ap (called s (lent page c)) d ∙ ap (λ b. record { machine = o .after; book = b }) (told-lent (s .book) c (o .verdict)) in
+      after-call s (called s c o) (lent page c) (o .verdict) (events page es) (mayStand (s .book) c) (traced (called s c o) es) a (ap (λ y. y .verdict) d) f
+      (traced-says (called s c o) es (subst (Inv 64 4 1 allows) f (keeps 64 4 1 allows s (call (lent page c)) i a)) (both .1))
+  traced-says s (torn t ∷ es) i e =
+      let both = and-eq-true-iff (mayLeave (s .machine .base) (s .machine .region) t) (traced (cutOff s false t) es .valid) .0 e in
+      let a : Cut (s .machine .base) (s .machine .region) t = cut-is (s .machine .base) (s .machine .region) t (both .0) in
+      after-cut s (cutOff s false t) (cut t) (events page es) (mayLeave (s .machine .base) (s .machine .region) t) (traced (cutOff s false t) es) refl a refl
+      (traced-says (cutOff s false t) es (keeps 64 4 1 allows s (cut t) i a) (both .1))
+  traced-says s (tornIn c t ∷ es) i e =
+      let o : Outcome = plainly (s .machine) c in
+      let u : State = cutOff s (sealedIn 4 s c (o .verdict) t) t in
+      let leaves : Bool = mayLeave (s .machine .base) (o .after .region) t in
+      let both = and-eq-true-iff (mayStand (s .book) c && leaves) (traced u es .valid) .0 e in
+      let here = and-eq-true-iff (mayStand (s .book) c) leaves .0 (both .0) in
+      let d : done 4 1 (s .machine) (lent page c) ≡ o = done-plainly (s .machine) (sound-of 64 4 1 allows s i) (fits-of s i) c in
+      let a : Allows 4 1 s (cutIn (lent page c) t) =
+      (stand-is (s .book) c (here .0), subst (λ y. Cut (s .machine .base) (y .after .region) t) (sym d) (cut-is (s .machine .base) (o .after .region) t (here .1))) in
+      let f : step 4 1 s (cutIn (lent page c) t) ≡ u =
+      ap (λ b. cutOff s b t) (ap (λ y. sealedIn 4 s (lent page c) (y .verdict) t) d ∙ sealed-lent s c (o .verdict) t) in
+      after-cut s u (cutIn (lent page c) t) (events page es) (mayStand (s .book) c && leaves) (traced u es) refl a f
+      (traced-says u es (subst (Inv 64 4 1 allows) f (keeps 64 4 1 allows s (cutIn (lent page c) t) i a)) (both .1))
 
-  -- so by demand 3 recovery finds exactly it
-  pub one-found : (other : List ℕ) → Large other → foundAfter (one page) other ≡ firedSaid ∷ []
-  one-found other k = fired-found (one page) (one-committed .0) (one-committed .1) other k
+-- a row that the test passes holds; by demand 3 a caller reads its records
+row-holds : (x : Row) → tried x ≡ expected x → Holds x
+row-holds x e page h =
+    let y : Says page h (start 64) (events page (x .entries)) (tried x) = traced-says page h (start 64) (x .entries) (at-first 64 4 1 allows) (ap (λ z. z .valid) e) in
+    let book : after 64 4 1 (events page (x .entries)) .book ≡ x .book = y .leaves ∙ ap (λ z. z .book) e in
+    record {
+      valid = y .valid;
+      comes = y .comes ∙ ap (λ z. z .verdicts) e;
+      leaves = book;
+      read =
+          λ pages large.
+          subst (λ b. Exactly (Reads (after 64 4 1 (events page (x .entries)) .machine .region) (fresh (units 64 4 1)) pages) (allGiven (b .records))) book
+          (demand-3 64 4 1 allows (events page (x .entries)) (y .valid) .finds-book pages large);
+    }
 
-  reopens-fired : step 4 1 (cut₀ fired) (call (opening page)) ≡ at (bodied fired) (bodied fired) (holds (ready units 20)) nothing []
-  unfolding step
-  reopens-fired = rw (bodied-opens .0)
+rows-hold : (xs : List Row) → map tried xs ≡ map expected xs → AllHold xs
+rows-hold [] e = _
+rows-hold (x ∷ xs) e = (row-holds x (cc), rows-hold xs (cc))
 
-  skipped-leads : Leads (start 40) (again fired page) (at (bodied fired) (bodied fired) (holds (ready units 20)) nothing [])
-  skipped-leads =
-      let t : State = at (bodied fired) (bodied fired) (holds (ready units 20)) nothing [] in
-      cut-leads fired 0 16 (call (opening page) ∷ []) t (plain-typed 6 7 (omega arith) (omega arith)) stages-fired
-      (goes (cut₀ fired) t t (call (opening page)) [] (refl, h) reopens-fired (stays t))
+pub table-holds : AllHold table
+table-holds = rows-hold table tried-table
 
-  -- a cut leaves fired without its seal: the next opening passes it and has a journal behind it, and the book is empty
-  pub skipped-then-opened : Valid 4 1 (start 40) (again fired page)
-      × (run 4 1 (start 40) (again fired page) .machine .held ≡ holds (ready units 20))
-      × (run 4 1 (start 40) (again fired page) .book ≡ record { way = nothing; records = [] })
-  skipped-then-opened = (skipped-leads .valid, ap (λ s. s .machine .held) (skipped-leads .ends), ap (λ s. s .book) (skipped-leads .ends))
-
-  refuses-scheduled : step 4 1 (cut₀ scheduled) (call (opening page)) ≡ cut₀ scheduled
-  unfolding step
-  refuses-scheduled = rw (bodied-opens .1)
-
-  refused-went : done 4 1 (cut₀ scheduled .machine) (opening page) .went ≡ false
-  refused-went = rw (bodied-opens .1)
-
-  before-leads : Leads (start 40) (cutAfter scheduled page) (cut₀ scheduled)
-  before-leads = cut-leads scheduled 8 24 [] (cut₀ scheduled) (plain-typed 2 1 (omega arith) (omega arith)) stages-scheduled (stays (cut₀ scheduled))
-
-  unopenable-leads : Leads (start 40) (again scheduled page) (cut₀ scheduled)
-  unopenable-leads =
-      cut-leads scheduled 8 24 (call (opening page) ∷ []) (cut₀ scheduled) (plain-typed 2 1 (omega arith) (omega arith)) stages-scheduled
-      (goes (cut₀ scheduled) (cut₀ scheduled) (cut₀ scheduled) (call (opening page)) [] (refl, h) refuses-scheduled (stays (cut₀ scheduled)))
-
-  -- a cut leaves scheduled without its seal: the next opening is refused, and there is no journal
-  pub unopenable : Valid 4 1 (start 40) (again scheduled page)
-      × (done 4 1 (run 4 1 (start 40) (cutAfter scheduled page) .machine) (opening page) .went ≡ false)
-      × (run 4 1 (start 40) (again scheduled page) .machine .held ≡ none)
-  unopenable =
-      (unopenable-leads .valid, ap (λ s. done 4 1 (s .machine) (opening page) .went) (before-leads .ends) ∙ refused-went, ap (λ s. s .machine .held) (unopenable-leads .ends))
-
-  within-leads : Leads (start 40) (cutWithin page) (at sealed sealed none nothing (fired ∷ []))
-  within-leads =
-      let t : State = at sealed sealed none nothing (fired ∷ []) in
-      staged-leads fired 0 16 (call barrier ∷ cutIn commit sealed ∷ []) t (plain-typed 6 7 (omega arith) (omega arith)) stages-fired
-      (goes (staged₀ fired 0 16) firm₀ t (call barrier) (cutIn commit sealed ∷ []) _ confirms
-      (goes firm₀ t t (cutIn commit sealed) [] (_, torn) cut-whole (stays t)))
-
-  -- a cut within the commit of fired leaves its seal whole: the book has it, though no commit returned
-  pub finished-by-a-cut : Valid 4 1 (start 40) (cutWithin page) × (run 4 1 (start 40) (cutWithin page) .book .records ≡ fired ∷ [])
-  finished-by-a-cut = (within-leads .valid, ap (λ s. s .book .records) (within-leads .ends))
-
-  -- so by demand 3 recovery finds exactly it
-  pub finished-found : (other : List ℕ) → Large other → foundAfter (cutWithin page) other ≡ firedSaid ∷ []
-  finished-found other k = fired-found (cutWithin page) (finished-by-a-cut .0) (finished-by-a-cut .1) other k
-
--- fired's body with bit 3 of its first byte left as it was, all other bits programmed
-abbrev pub halfByte : List ℕ
-halfByte = 0x5f ∷ drop 1 (bodied fired)
-
--- past its eight bits a byte has none
-no-bit : (n k : ℕ) → n < 256 → bit (8 + k) n ≡ 0
-no-bit n k h = ap (λ (m : ℕ). m % 2) (sym (shr-shr n 8 k) ∙ ap (λ (m : ℕ). m / 2 ^ k) (small n h) ∙ none-left k) where
-  small : (m : ℕ) → m < 256 → m / 2 ^ 8 ≡ 0
-  small m i = omega arith
-
-  none-left : (j : ℕ) → 0 / 2 ^ j ≡ 0
-  none-left j = omega (arith, shr-le 0 j)
-
-half : (k : ℕ) → (bit k 0x5f ≡ bit k 255) ⊎ (bit k 0x5f ≡ bit k 0x57)
-half zero = inl refl
-half (suc zero) = inl refl
-half (suc (suc zero)) = inl refl
-half (suc (suc (suc zero))) = inl refl
-half (suc (suc (suc (suc zero)))) = inl refl
-half (suc (suc (suc (suc (suc zero))))) = inr refl
-half (suc (suc (suc (suc (suc (suc zero)))))) = inl refl
-half (suc (suc (suc (suc (suc (suc (suc zero))))))) = inr refl
-half (suc (suc (suc (suc (suc (suc (suc (suc k)))))))) =
-    let e : suc (suc (suc (suc (suc (suc (suc (suc k))))))) ≡ 8 + k = omega arith in
-    inl (ap (λ j. bit j 0x5f) e ∙ no-bit 0x5f k (omega arith) ∙ sym (no-bit 255 k (omega arith)) ∙ sym (ap (λ j. bit j 255) e))
-
-half-cut : Cut blank (bodied fired) halfByte
-unfolding plainRecord programmed ands bytesLE bodyLen sealedHeader headerOf coveredOf frameOf paddingOf bodyOf
-half-cut = record { long = long; bytes = each } where
-  first : getD (bodied fired) 0 255 ≡ 0x57
-  first = refl
-
-  long : length halfByte ≡ length blank
-  long = omega (arith, length-drop 1 (bodied fired), bodied-sound fired .size)
-
-  each : (i : ℕ) → Mixed (getD blank i 255) (getD (bodied fired) i 255) (getD halfByte i 255)
-  each zero = record { each = half }
-  each (suc i) =
-      let e : 1 + i ≡ suc i = omega arith in
-      record { each = λ k. inr (ap (bit k) (getD-drop 1 (bodied fired) i 255 ∙ ap (λ j. getD (bodied fired) j 255) e)) }
-
--- a cut that leaves half a byte: the list is one that demand 3 speaks of, and nothing is found after it
-abbrev pub cutInByte : List ℕ → List Event
-cutInByte page = call (opening page) ∷ call (stage fired page) ∷ cut halfByte ∷ []
-
-module _ (page : List ℕ) (h : Large page) where
-  half-leads : Leads (start 40) (cutInByte page) (at halfByte halfByte none nothing [])
-  unfolding step
-  half-leads =
-      staged-leads page h fired 0 16 (cut halfByte ∷ []) (at halfByte halfByte none nothing []) (plain-typed 6 7 (omega arith) (omega arith)) (stages-fired page h)
-      (goes (staged₀ fired 0 16) (at halfByte halfByte none nothing []) (at halfByte halfByte none nothing []) (cut halfByte) [] half-cut refl (stays (at halfByte halfByte none nothing [])))
-
-  pub cut-in-a-byte : Valid 4 1 (start 40) (cutInByte page) × (run 4 1 (start 40) (cutInByte page) .book .records ≡ [])
-  cut-in-a-byte = (half-leads .valid, ap (λ s. s .book .records) (half-leads .ends))
+-- what the nine records say, computed
+pub nine-said : allGiven nine ≡ nineSaid
+unfolding allGiven given recordWith numbersOf payloadOf fieldBytes bytesLE widths
+nine-said = refl

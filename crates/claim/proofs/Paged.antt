@@ -46,7 +46,7 @@ use Rattle.recovery.specs.Reads.{capacityOf, Read, laid, further, headerSize, w
 use Rattle.recovery.specs.Next.{outcomeOf, Walk, onward, walkFrom, reach, Done, stepped, finished, ran, isOpen, opened, step, NextStep, partAt}
 use Rattle.recovery.proofs.Fronts.{capped, front-read}
 use Rattle.recovery.proofs.Near.{laid-long, laid-append}
-use Rattle.claim.specs.Saying.{saidIn}
+use Rattle.claim.proofs.Said.{saidIn}
 
 -- a part of a list's first n bytes is that part of the list
 inside : (n i k : ℕ) (l : List ℕ) → i + k ≤ n → n ≤ length l → take k (drop i (take n l)) ≡ take k (drop i l)

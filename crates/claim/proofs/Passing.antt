@@ -24,7 +24,8 @@ use Rattle.recovery.specs.Next.{outcomeOf}
 use Rattle.recovery.proofs.Near.{Near, near-stands}
 use Rattle.finish.specs.Course.{Course, along, courseBy, plainly, walk, found}
 use Rattle.finish.proofs.Walks.{fuel}
-use Rattle.claim.specs.Saying.{Given, Said, payloadFor, given, allGiven, saidIn, allSaidIn}
+use Rattle.claim.specs.Saying.{Given, Said, payloadFor, given, allGiven}
+use Rattle.claim.proofs.Said.{saidIn, allSaidIn}
 use Rattle.claim.proofs.Calm.{Calm}
 
 -- where the walk c says bs and then what d says, and ends as d does
@@ -54,7 +55,7 @@ pub record Ready (a : ℕ) (region : List ℕ) (o : ℕ) (bs : List Given) : Typ
   pub passes : Passes a front bs
   pub blank : erased tail ≡ true
 
-given-append : (bs cs : List Given) → allGiven (bs ++ cs) ≡ allGiven bs ++ allGiven cs
+pub given-append : (bs cs : List Given) → allGiven (bs ++ cs) ≡ allGiven bs ++ allGiven cs
 unfolding allGiven
 given-append [] cs = refl
 given-append (x ∷ xs) cs = ap (λ l. given x ∷ l) (given-append xs cs)

@@ -1,4 +1,7 @@
--- The definitions of demand 3: the cut rule, what a reading says, the list and its book.
-pub mod Cuts
-pub mod Saying
+-- The definitions of demand 3: start at Claim.
+pub mod Claim
+pub mod Instances
 pub mod Events
+pub mod Promised
+pub mod Saying
+pub mod Cuts

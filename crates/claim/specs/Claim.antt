@@ -1,0 +1,57 @@
+-- Demand 3: the claim, a clause for each of its sentences.
+-- A region of n bytes, program unit a, read unit r; es is the list of openings, stages, barriers, commits and cuts.
+use mathlib.Core.Path.{_≡_}
+use mathlib.Core.Bool.{true}
+use mathlib.Core.List.{List, _∷_, _++_}
+use Prim.Native.Nat.{ℕ}
+use lib.ListN.{drop}
+use Rattle.storage.specs.declared.geometry.Geometry.{Geometry}
+use Rattle.storage.specs.Media.{erased}
+use Rattle.recovery.specs.Next.{fresh}
+use Rattle.journal.specs.declared.Journal.{Journal}
+use Rattle.journal.specs.declared.Opening.the-variants.{Opened}
+use Rattle.journal.specs.Opening.{Opens}
+use Rattle.claim.specs.Saying.{Given, allGiven}
+use Rattle.claim.specs.Events.{Event, call, commit, unrefused, done, under, State, run, verdicts, start, Large}
+use Rattle.claim.specs.Promised.{Plays, Reads}
+
+-- x has the property P, and nothing else has
+pub record Exactly {A : Type 0} (P : A → Type 0) (x : A) : Type 0 where
+  pub has : P x
+  pub only : (y : A) → P y → y ≡ x
+
+-- x is one of the records bs
+pub record Among (x : Given) (bs : List Given) : Type 0 where
+  pub before : List Given
+  pub behind : List Given
+  pub is : bs ≡ before ++ (x ∷ behind)
+
+-- a record is under way in s, and it is one of the records bs
+pub record Kept (s : State) (bs : List Given) : Type 0 where
+  pub one : Given
+  pub way : s .book .way ≡ under one
+  pub among : Among one bs
+
+module _ (n a r : ℕ) where
+  abbrev pub units : Geometry
+  units = record { bytes = n; «program_size» = a; «read_size» = r }
+
+  -- the state after a list, by the papers' definitions
+  abbrev pub after : List Event → State
+  after es = run a r (start n) es
+
+  pub record Claim (es : List Event) : Type 0 where
+    -- calls that keep their promises come to what the papers' definitions give: the same refusals, the same state
+    pub refuses : Exactly (Plays a r (start n) es) (record { verdicts = verdicts a r (start n) es; state = after es })
+    -- a caller who reads from offset 0, with any large page at each step, reads the book's records and no others
+    pub finds-book : (pages : ℕ → List ℕ) → ((i : ℕ) → Large (pages i))
+        → Exactly (Reads (after es .machine .region) (fresh units) pages) (allGiven (after es .book .records))
+    -- a record whose commit was not refused is in the book at the list's end
+    pub has-committed : (fs gs : List Event)
+        → es ≡ fs ++ (call commit ∷ gs)
+        → done a r (after fs .machine) commit .verdict ≡ unrefused
+        → Kept (after fs) (after es .book .records)
+    -- a journal that is opened now has nothing but 0xFF from its offset on
+    pub opens-erased : (page page′ : List ℕ) (j : Journal)
+        → Opens a r (after es .machine .region) page (Opened j) page′
+        → erased (drop (j .offset) (after es .machine .region)) ≡ true
