@@ -1,7 +1,7 @@
 -- What follows from the claim of demand 3 alone, in other words: with one page for a whole recovery, with the opening's
 -- definition, and for a committed record in what a caller reads.
 -- Assumes nothing.
-use mathlib.Core.Path.{_≡_, sym, ap, _∙_}
+use mathlib.Core.Path.{_≡_, refl, sym, ap, subst, _∙_}
 use mathlib.Core.Bool.{true}
 use mathlib.Core.List.{List, _∷_, _++_}
 use Prim.Native.Nat.{ℕ}
@@ -15,11 +15,12 @@ use Rattle.journal.specs.declared.Journal.{Journal}
 use Rattle.journal.specs.declared.Opening.the-variants.{Opened}
 use Rattle.journal.specs.Opening.{Left, opened}
 use Rattle.claim.specs.Saying.{Given, Said, given, allGiven}
-use Rattle.claim.specs.Events.{commit, Event, call, unrefused, done, under, State, Large}
+use Rattle.claim.specs.Events.{commit, Event, call, unrefused, done, under, State, step, run, start, Large}
 use Rattle.claim.specs.Promised.{Reads}
 use Rattle.claim.specs.Claim.{Among, Kept, units, after, Claim}
 use Rattle.claim.proofs.Said.{allSaidIn}
 use Rattle.claim.proofs.Passing.{given-append}
+use Rattle.claim.proofs.Growth.{run-append}
 use Rattle.claim.proofs.Reading.{reads-exactly}
 
 -- a record was under way in s, and what it was given to say is among the xs
@@ -60,3 +61,10 @@ module _ (n a r : ℕ) (es : List Event) (claim : Claim n a r es) where
         behind = allGiven (m .behind);
         is = claim .finds-book pages large .only xs reads ∙ ap allGiven (m .is) ∙ given-append (m .before) (k .one ∷ m .behind);
       }
+
+-- a commit's record is in the book after the commit and any further events of a list that demand 3 speaks of
+pub committed-found : (n a r : ℕ) (es fs : List Event) → Claim n a r (es ++ (call commit ∷ fs)) → done a r (after n a r es .machine) commit .verdict ≡ unrefused
+    → Kept (after n a r es) (run a r (step a r (after n a r es) (call commit)) fs .book .records)
+unfolding run
+committed-found n a r es fs claim went =
+    subst (λ t. Kept (after n a r es) (t .book .records)) (run-append a r (start n) es (call commit ∷ fs)) (claim .has-committed es fs refl went)

@@ -58,7 +58,7 @@ module _ (a r : ℕ) where
   grows s (e ∷ es) = grows-more (s .book .records) (step a r s e .book .records) (run a r (step a r s e) es .book .records) (grows-step s e) (grows (step a r s e) es)
 
   -- a list played in two parts
-  run-append : (s : State) (es fs : List Event) → run a r s (es ++ fs) ≡ run a r (run a r s es) fs
+  pub run-append : (s : State) (es fs : List Event) → run a r s (es ++ fs) ≡ run a r (run a r s es) fs
   unfolding run
   run-append s [] fs = refl
   run-append s (e ∷ es) fs = run-append (step a r s e) es fs
