@@ -7,7 +7,7 @@ use Prim.Native.Nat.{ℕ, zero, suc, _+_, _-_, _*_, _/_, _%_, _≤_, _<_}
 use native.Mathlib.Omega.{arith}
 use lib.Dec.{eqb, ltb}
 use lib.ListN.{length, getD, take, drop, replicate, length-append, length-drop, take-append-drop}
-use lib.Seq.{getD-drop, getD-take, getD-append-add, length-take-le}
+use lib.Seq.{getD-drop, getD-take, getD-append-add, length-take-le, drop-drop, drop-append-seam}
 use Rattle.core.specs.declared.error.DecodeError.{DecodeError}
 use Rattle.core.proofs.Choice.{cond-case}
 use Rattle.integrity.specs.Fcs.{headerCheck}
@@ -272,6 +272,19 @@ module _ (a : ℕ) (h : 0 < a) (base r : List ℕ) (o : ℕ) (x : Given) (bs : L
   after-body u l e n =
       subst (λ t. Calm (body ++ t) (stands a (body ++ t))) (take-append-drop a u)
       (calm-unsealed a h (x .«record») (x .free) (v .taken) (take a u) (length-take-le a u l) n (drop a u) (blank-erased (drop a u) e))
+
+  -- the slot of a body that is whole, and of one that is torn, holds no seal
+  pub busy-unsealed : sealHolds crc (take a (drop (o + d) r)) ≡ false
+  busy-unsealed =
+      ap₂ (λ k l. sealHolds crc (take a (drop k l))) at-slot is-front
+      ∙ ap (λ l. sealHolds crc (take a l)) (drop-append-seam (f ++ body) behind)
+      ∙ no-seal crc (take a behind) (blank-take a behind behind-blank)
+
+  pub torn-unsealed : (t : List ℕ) → Cut base r t → sealHolds crc (take a (drop (o + d) t)) ≡ false
+  unfolding w
+  torn-unsealed t c =
+      ap (λ l. sealHolds crc (take a l)) (ap (λ k. drop (k + d) t) (v .ready .place) ∙ sym (drop-drop d (length f) t))
+      ∙ no-seal crc (take a (drop d (w t c))) (blank-take a (drop d (w t c)) (later t c))
 
   -- with the body programmed, nothing more is found
   pub busy-shape : Shape a r bs

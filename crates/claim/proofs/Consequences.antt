@@ -1,6 +1,6 @@
--- What follows from the claim of demand 3 alone, in other words: with one page for a whole recovery, with the opening's
--- definition, and for a committed record in what a caller reads.
--- Assumes nothing.
+-- What follows from the claim of demand 3: with one page for a whole recovery, with the opening's definition, and for a
+-- committed record in what a caller reads.
+-- Assumes nothing beyond the claim, but for the first that the settings are within their limits and the region is bytes.
 use mathlib.Core.Path.{_≡_, refl, sym, ap, subst, _∙_}
 use mathlib.Core.Bool.{true}
 use mathlib.Core.List.{List, _∷_, _++_}
@@ -17,19 +17,18 @@ use Rattle.journal.specs.Opening.{Left, opened}
 use Rattle.claim.specs.Saying.{Given, Said, given, allGiven}
 use Rattle.claim.specs.Events.{commit, Event, call, unrefused, done, under, State, step, run, start, Large}
 use Rattle.claim.specs.Promised.{Reads}
-use Rattle.claim.specs.Claim.{Among, Kept, units, after, Claim}
+use Rattle.claim.specs.Claim.{Kept, units, after, Claim}
 use Rattle.claim.proofs.Said.{allSaidIn}
 use Rattle.claim.proofs.Passing.{given-append}
 use Rattle.claim.proofs.Growth.{run-append}
 use Rattle.claim.proofs.Reading.{reads-exactly}
 
--- a record was under way in s, and what it was given to say is among the xs
+-- a record was under way in s, and what it was given to say stands in xs right behind what the book of s says
 pub record Told (s : State) (xs : List Said) : Type 0 where
   pub one : Given
   pub way : s .book .way ≡ under one
-  pub before : List Said
   pub behind : List Said
-  pub is : xs ≡ before ++ (given one ∷ behind)
+  pub is : xs ≡ allGiven (s .book .records) ++ (given one ∷ behind)
 
 module _ (n a r : ℕ) (es : List Event) (claim : Claim n a r es) where
   abbrev region : List ℕ
@@ -53,13 +52,11 @@ module _ (n a r : ℕ) (es : List Event) (claim : Claim n a r es) where
   unfolding allGiven
   committed-read fs gs is went pages large xs reads =
       let k : Kept (after n a r fs) (after n a r es .book .records) = claim .has-committed fs gs is went in
-      let m : Among (k .one) (after n a r es .book .records) = k .among in
       record {
         one = k .one;
         way = k .way;
-        before = allGiven (m .before);
-        behind = allGiven (m .behind);
-        is = claim .finds-book pages large .only xs reads ∙ ap allGiven (m .is) ∙ given-append (m .before) (k .one ∷ m .behind);
+        behind = allGiven (k .behind);
+        is = claim .finds-book pages large .only xs reads ∙ ap allGiven (k .is) ∙ given-append (after n a r fs .book .records) (k .one ∷ k .behind);
       }
 
 -- a commit's record is in the book after the commit and any further events of a list that demand 3 speaks of

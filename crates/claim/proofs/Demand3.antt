@@ -1,5 +1,5 @@
--- Demand 3: after every list of openings, stages, barriers, commits and power cuts, refused calls included, its claim
--- holds. Nothing is assumed of the checks' values, nor of which bits a cut takes.
+-- The claim of demand 3 holds after every list.
+-- Nothing is assumed of the checks' values, nor of which bits a cut takes.
 use mathlib.Core.Path.{_≡_, sym, ap, subst}
 use mathlib.Core.Bool.{true}
 use mathlib.Core.List.{List, _∷_}

@@ -50,7 +50,7 @@ module _ (a r : ℕ) where
   unfolding step
   grows-step s (call c) = grows-told (s .book) c (done a r (s .machine) c .verdict)
   grows-step s (cut t) = grows-none (s .book .records)
-  grows-step s (cutIn c t) = grows-cut (s .book) (sealedIn a s c (done a r (s .machine) c .verdict) t)
+  grows-step s (cutIn c t) = grows-cut (s .book) (sealedIn a s c t)
 
   grows : (s : State) (es : List Event) → Grows (s .book .records) (run a r s es .book .records)
   unfolding run
@@ -74,15 +74,7 @@ module _ (a r : ℕ) where
       let t : State = step a r s (call commit) in
       let last : t .book .records ≡ s .book .records ++ (x ∷ []) = rw (w, e) in
       let g : Grows (t .book .records) (run a r t gs .book .records) = grows t gs in
-      record {
-        one = x;
-        way = e;
-        among = record {
-          before = s .book .records;
-          behind = g .more;
-          is = g .is ∙ ap (λ l. l ++ g .more) last ∙ append-assoc (s .book .records) (x ∷ []) (g .more);
-        };
-      }
+      record { one = x; way = e; behind = g .more; is = g .is ∙ ap (λ l. l ++ g .more) last ∙ append-assoc (s .book .records) (x ∷ []) (g .more) }
 
 module _ (n a r : ℕ) (ok : allowed n a r ≡ true) where
   -- a commit that goes through has a record under way

@@ -8,7 +8,7 @@ use Prim.Native.Nat.{ℕ, zero, suc, _+_, _/_, _%_, _^_, _≤_}
 use native.Mathlib.Omega.{arith}
 use lib.Bits.{bitAnd, bitXor, xor-shr, xor-add-and}
 use lib.Dec.{eqb, ltb}
-use lib.ListN.{length, getD, replicate}
+use lib.ListN.{length, getD, replicate, length-replicate}
 use lib.Pow.{shr-le, areBytes}
 use borrow.Author.Tests.{eqb-true, ltb-true, ltb-false, le-ltb}
 use Rattle.core.specs.declared.«record».Record.{Record}
@@ -33,12 +33,12 @@ use Rattle.journal.specs.Opening.{openBy}
 use Rattle.append.specs.Append.{unitOf, roomOf, stagedWith, asStaged, onDevice, underWay, begins, staged, isNext, confirmed, barred, moved, committed}
 use Rattle.claim.specs.Cuts.{bit, Mixed, Cut}
 use Rattle.claim.specs.Saying.{Given, given, allGiven}
-use Rattle.claim.specs.Events.{Call, opening, stage, barrier, commit, Event, call, cut, cutIn, Held, none, holds, Machine, Verdict, Outcome, afterOpening, stepped, stepBy, done, Way, nothing, under, Book, told, State, sealedIn, called, cutOff, step, run, verdicts, Large, Stands, Allows, Valid, start}
+use Rattle.claim.specs.Events.{Call, opening, stage, barrier, commit, Event, call, cut, cutIn, Held, none, holds, Machine, Verdict, Outcome, afterOpening, stepped, stepBy, done, Way, nothing, under, Book, told, State, sealedIn, called, cutOff, step, run, verdicts, Large, Stands, StandsCut, Allows, Valid, start}
 use Rattle.claim.specs.Promised.{Reads}
 use Rattle.claim.specs.Claim.{Exactly, units, after}
 use Rattle.claim.proofs.Bits.{bit-and}
 use Rattle.claim.proofs.Invariant.{Sound, opening-is, Inv, lost-inv, ready-inv, staged-inv, firm-inv, keeps, at-first, sound-of}
-use Rattle.claim.specs.Instances.{Entry, made, torn, tornIn, Row, lent, events, answers, Holds, AllHold, table, nine, nineSaid}
+use Rattle.claim.specs.Instances.{Entry, does, torn, tornIn, Row, lent, events, answers, Holds, AllHold, table, nine, nineSaid}
 use Rattle.claim.proofs.Demand3.{demand-3}
 
 -- # The test
@@ -77,6 +77,12 @@ mayStand b (stage x page) = b .journal && typed x
 mayStand b barrier = b .journal
 mayStand b commit = b .journal
 
+abbrev mayBeCut : Book → Call → Bool
+mayBeCut b (opening page) = true
+mayBeCut b (stage x page) = mayStand b (stage x page)
+mayBeCut b barrier = mayStand b barrier
+mayBeCut b commit = mayStand b commit
+
 -- no bit of t differs from both that of x and that of y
 abbrev mixes : ℕ → ℕ → ℕ → Bool
 mixes x y t = eqb (bitAnd (bitXor t x) (bitXor t y)) 0
@@ -103,14 +109,14 @@ answered v z = record { valid = z .valid; verdicts = v ∷ z .verdicts; book = z
 
 traced : State → List Entry → Trace
 traced s [] = record { valid = true; verdicts = []; book = s .book }
-traced s (made c v ∷ es) =
+traced s (does c v ∷ es) =
     let o : Outcome = plainly (s .machine) c in
     checked (mayStand (s .book) c) (answered (o .verdict) (traced (called s c o) es))
 traced s (torn t ∷ es) = checked (mayLeave (s .machine .base) (s .machine .region) t) (traced (cutOff s false t) es)
 traced s (tornIn c t ∷ es) =
     let o : Outcome = plainly (s .machine) c in
-    checked (mayStand (s .book) c && mayLeave (s .machine .base) (o .after .region) t)
-    (traced (cutOff s (sealedIn 4 s c (o .verdict) t) t) es)
+    checked (mayBeCut (s .book) c && mayLeave (s .machine .base) (o .leaves .region) t)
+    (traced (cutOff s (sealedIn 4 s c t) t) es)
 
 abbrev tried : Row → Trace
 tried x = traced (start 64) (x .entries)
@@ -243,11 +249,11 @@ module _ (page : List ℕ) (h : Large page) where
   told-lent b barrier v = refl
   told-lent b commit v = refl
 
-  sealed-lent : (s : State) (c : Call) (v : Verdict) (t : List ℕ) → sealedIn 4 s (lent page c) v t ≡ sealedIn 4 s c v t
-  sealed-lent s (opening p) v t = refl
-  sealed-lent s (stage x p) v t = refl
-  sealed-lent s barrier v t = refl
-  sealed-lent s commit v t = refl
+  sealed-lent : (s : State) (c : Call) (t : List ℕ) → sealedIn 4 s (lent page c) t ≡ sealedIn 4 s c t
+  sealed-lent s (opening p) t = refl
+  sealed-lent s (stage x p) t = refl
+  sealed-lent s barrier t = refl
+  sealed-lent s commit t = refl
 
   -- a call that passes the test may stand
   stand-is : (b : Book) (c : Call) → mayStand b c ≡ true → Stands b (lent page c)
@@ -257,6 +263,12 @@ module _ (page : List ℕ) (h : Large page) where
       (both .0, h, typed-is x (both .1))
   stand-is b barrier e = e
   stand-is b commit e = e
+
+  cut-stand-is : (b : Book) (c : Call) → mayBeCut b c ≡ true → StandsCut b (lent page c)
+  cut-stand-is b (opening p) e = h
+  cut-stand-is b (stage x p) e = stand-is b (stage x p) e
+  cut-stand-is b barrier e = e
+  cut-stand-is b commit e = e
 
   -- a list is valid from s, and comes to what a trace says
   record Says (s : State) (es : List Event) (z : Trace) : Type 0 where
@@ -289,13 +301,13 @@ module _ (page : List ℕ) (h : Large page) where
   traced-says : (s : State) (es : List Entry) → Inv 64 4 1 allows s → traced s es .valid ≡ true → Says s (events page es) (traced s es)
   unfolding traced step run verdicts
   traced-says s [] i e = record { valid = _; comes = refl; leaves = refl }
-  traced-says s (made c v ∷ es) i e =
+  traced-says s (does c v ∷ es) i e =
       let o : Outcome = plainly (s .machine) c in
       let both = and-eq-true-iff (mayStand (s .book) c) (traced (called s c o) es .valid) .0 e in
       let d : done 4 1 (s .machine) (lent page c) ≡ o = done-plainly (s .machine) (sound-of 64 4 1 allows s i) (fits-of s i) c in
       let a : Stands (s .book) (lent page c) = stand-is (s .book) c (both .0) in
       let f : step 4 1 s (call (lent page c)) ≡ called s c o =
-      ap (called s (lent page c)) d ∙ ap (λ b. record { machine = o .after; book = b }) (told-lent (s .book) c (o .verdict)) in
+      ap (called s (lent page c)) d ∙ ap (λ b. record { machine = o .leaves; book = b }) (told-lent (s .book) c (o .verdict)) in
       after-call s (called s c o) (lent page c) (o .verdict) (events page es) (mayStand (s .book) c) (traced (called s c o) es) a (ap (λ y. y .verdict) d) f
       (traced-says (called s c o) es (subst (Inv 64 4 1 allows) f (keeps 64 4 1 allows s (call (lent page c)) i a)) (both .1))
   traced-says s (torn t ∷ es) i e =
@@ -305,16 +317,15 @@ module _ (page : List ℕ) (h : Large page) where
       (traced-says (cutOff s false t) es (keeps 64 4 1 allows s (cut t) i a) (both .1))
   traced-says s (tornIn c t ∷ es) i e =
       let o : Outcome = plainly (s .machine) c in
-      let u : State = cutOff s (sealedIn 4 s c (o .verdict) t) t in
-      let leaves : Bool = mayLeave (s .machine .base) (o .after .region) t in
-      let both = and-eq-true-iff (mayStand (s .book) c && leaves) (traced u es .valid) .0 e in
-      let here = and-eq-true-iff (mayStand (s .book) c) leaves .0 (both .0) in
+      let u : State = cutOff s (sealedIn 4 s c t) t in
+      let leaves : Bool = mayLeave (s .machine .base) (o .leaves .region) t in
+      let both = and-eq-true-iff (mayBeCut (s .book) c && leaves) (traced u es .valid) .0 e in
+      let here = and-eq-true-iff (mayBeCut (s .book) c) leaves .0 (both .0) in
       let d : done 4 1 (s .machine) (lent page c) ≡ o = done-plainly (s .machine) (sound-of 64 4 1 allows s i) (fits-of s i) c in
       let a : Allows 4 1 s (cutIn (lent page c) t) =
-      (stand-is (s .book) c (here .0), subst (λ y. Cut (s .machine .base) (y .after .region) t) (sym d) (cut-is (s .machine .base) (o .after .region) t (here .1))) in
-      let f : step 4 1 s (cutIn (lent page c) t) ≡ u =
-      ap (λ b. cutOff s b t) (ap (λ y. sealedIn 4 s (lent page c) (y .verdict) t) d ∙ sealed-lent s c (o .verdict) t) in
-      after-cut s u (cutIn (lent page c) t) (events page es) (mayStand (s .book) c && leaves) (traced u es) refl a f
+      (cut-stand-is (s .book) c (here .0), subst (λ y. Cut (s .machine .base) (y .leaves .region) t) (sym d) (cut-is (s .machine .base) (o .leaves .region) t (here .1))) in
+      let f : step 4 1 s (cutIn (lent page c) t) ≡ u = ap (λ b. cutOff s b t) (sealed-lent s c t) in
+      after-cut s u (cutIn (lent page c) t) (events page es) (mayBeCut (s .book) c && leaves) (traced u es) refl a f
       (traced-says u es (subst (Inv 64 4 1 allows) f (keeps 64 4 1 allows s (cutIn (lent page c) t) i a)) (both .1))
 
 -- a row that the test passes holds; by demand 3 a caller reads its records
@@ -325,7 +336,7 @@ row-holds x e page h =
     record {
       valid = y .valid;
       comes = y .comes ∙ ap (λ z. z .verdicts) e;
-      leaves = book;
+      book = book;
       read =
           λ pages large.
           subst (λ b. Exactly (Reads (after 64 4 1 (events page (x .entries)) .machine .region) (fresh (units 64 4 1)) pages) (allGiven (b .records))) book
@@ -338,6 +349,10 @@ rows-hold (x ∷ xs) e = (row-holds x (cc), rows-hold xs (cc))
 
 pub table-holds : AllHold table
 table-holds = rows-hold table tried-table
+
+-- there are pages that are large enough
+pub some-page : Large (replicate 131072 0)
+some-page = omega (arith, length-replicate {A = ℕ} 131072 0)
 
 -- what the nine records say, computed
 pub nine-said : allGiven nine ≡ nineSaid

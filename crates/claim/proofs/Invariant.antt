@@ -37,18 +37,18 @@ use Rattle.roundtrip.proofs.Frames.{payload-size}
 use Rattle.journal.specs.declared.WriteAmplification.{WriteAmplification}
 use Rattle.journal.specs.declared.Journal.{Journal}
 use Rattle.journal.specs.declared.Opening.{Opening}
-use Rattle.journal.specs.declared.Opening.the-variants.{Refused as NoJournal}
+use Rattle.journal.specs.declared.Opening.the-variants.{Opened, Refused as NoJournal}
 use Rattle.journal.specs.Opening.{none as nothingWritten, ready, asGiven, openBy, opened}
 use Rattle.append.specs.Append.{counts, plus, unitOf, Left, keeps as refusing, checkFor, bodyFor, onDevice, stagedWith, begins, staged, underWay, isNext, confirmed, barred, moved, committed}
 use Rattle.claim.specs.Cuts.{Cut}
 use Rattle.claim.specs.Saying.{Given, payloadFor, allGiven}
-use Rattle.claim.specs.Events.{Call, opening, stage, barrier, commit, Event, call, cut, cutIn, Held, none, holds, Machine, machine, refusedWith, Outcome, outcome, afterOpening, stepped, done, Torn, lost, Way, nothing, under, sealedIn, State, called, cutOff, step, run, Large, Stands, Allows, Valid, start}
+use Rattle.claim.specs.Events.{Call, opening, stage, barrier, commit, Event, call, cut, cutIn, Held, none, holds, Machine, machine, refusedWith, Outcome, outcome, afterOpening, stepped, done, Torn, TornIn, lost, Way, nothing, under, wholeSeal, sealedIn, State, called, cutOff, step, run, Large, Stands, Allows, Valid, start}
 use Rattle.claim.specs.Claim.{units, after}
 use Rattle.claim.proofs.Said.{allSaidIn}
 use Rattle.claim.proofs.Tears.{replicate-bytes, cut-same, cut-bytes}
 use Rattle.claim.proofs.Looks.{skipped-local}
 use Rattle.claim.proofs.Passing.{Shape, Ready, passes-none, ready-shape, finds, opened-ready}
-use Rattle.claim.proofs.Appends.{Busy, busy-shape, torn-body, sealed, torn-whole, torn-part}
+use Rattle.claim.proofs.Appends.{Busy, busy-shape, busy-unsealed, torn-body, torn-unsealed, sealed, torn-whole, torn-part}
 
 -- what holds of a refusal, and of the step that follows refusals 1 and 2, holds of both
 pub on-device : (P : Left → Type 0) (j : Journal) (region page : List ℕ) (next : Left) → ((e : Refusal) → P (refusing e j region page)) → P next → P (onDevice j region page next)
@@ -125,34 +125,26 @@ module _ (n a r : ℕ) (ok : allowed n a r ≡ true) where
       run-without-page (fresh g) s page refl ok (x .size) (x .bytes) (capacity-large (length page) r reads (omega (arith, h))) in
       rw (x .size, ok) (ap (λ y. openBy g (y .state .offset) (y .answer) (y .state .ending)) (t .ends))
 
-  -- a call keeps the invariant, and so does whatever a cut within it leaves
-  record Keeps (s : State) (c : Call) (o : Outcome) : Type 0 where
-    kept : Inv (called s c o)
-    torn : (u : List ℕ) → Cut (s .machine .base) (o .after .region) u → Inv (cutOff s (sealedIn a s c (o .verdict) u) u)
-
   -- a region in which nothing is loose
   module _ (s : List ℕ) (bs : List Given) (x : Sound s) (v : Shape a s bs) where
     calm-cut : (u : List ℕ) → Cut s s u → Inv (at (lost u) false nothing bs)
     calm-cut u c = subst (λ t. Inv (at (lost t) false nothing bs)) (sym (cut-same s u c)) (lost-inv s bs x v)
 
-    calm-opening : (held : Held) (k : Bool) (page : List ℕ) → Large page → Keeps (at (machine s s held) k nothing bs) (opening page) (done a r (machine s s held) (opening page))
+    calm-opening : (held : Held) (k : Bool) (page : List ℕ) → Large page → Inv (called (at (machine s s held) k nothing bs) (opening page) (done a r (machine s s held) (opening page)))
     calm-opening held k page h = subst P (sym (opening-is s page x h)) (go (walk a s 0 .ending) refl) where
       P : Opening → Type 0
-      P y = Keeps (at (machine s s held) k nothing bs) (opening page) (afterOpening (machine s s held) y)
-
-      shut : (e : Refusal) → P (NoJournal e)
-      shut e = record { kept = lost-inv s bs x v; torn = calm-cut }
+      P y = Inv (called (at (machine s s held) k nothing bs) (opening page) (afterOpening (machine s s held) y))
 
       given : (y : Answer) → P (asGiven y)
-      given (NoRecord e) = shut e
-      given Ended = shut _
-      given (OneMore z) = shut _
+      given (NoRecord e) = lost-inv s bs x v
+      given Ended = lost-inv s bs x v
+      given (OneMore z) = lost-inv s bs x v
 
       go : (e : Ending) → walk a s 0 .ending ≡ e → P (openBy g (walk a s 0 .at) (walk a s 0 .answer) e)
-      go Clean f = record { kept = ready-inv s (walk a s 0 .at) nothingWritten bs x (opened-ready a some s bs (skipped-local a some) v f); torn = calm-cut }
-      go Damaged f = shut _
-      go Unsealed f = shut _
-      go Open f = shut _
+      go Clean f = ready-inv s (walk a s 0 .at) nothingWritten bs x (opened-ready a some s bs (skipped-local a some) v f)
+      go Damaged f = lost-inv s bs x v
+      go Unsealed f = lost-inv s bs x v
+      go Open f = lost-inv s bs x v
       go Incomplete f = given (walk a s 0 .answer)
 
   -- a cut between two calls keeps the invariant
@@ -162,7 +154,21 @@ module _ (n a r : ℕ) (ok : allowed n a r ≡ true) where
   cut-inv s (staged-inv base t o y w bs z x v) u c = lost-inv u bs (sound-cut base t u z x c) (torn-body a some base t o y bs v u c)
   cut-inv s (firm-inv base t o y w bs x v) u c = calm-cut t bs x (busy-shape a some base t o y bs v) u c
 
-  -- so does a step that is refused
+  -- it leaves no seal whole
+  unsealed : (s : State) → Inv s → (u : List ℕ) → Torn (s .machine) u → wholeSeal a (s .machine .held) (s .book .way) u ≡ false
+  unsealed s (lost-inv t bs x v) u c = refl
+  unsealed s (ready-inv t o w bs x v) u c = refl
+  unsealed s (staged-inv base t o y w bs z x v) u c = let e = torn-unsealed a some base t o y bs v u c in search
+  unsealed s (firm-inv base t o y w bs x v) u c =
+      let e = ap (λ l. sealHolds (checkFor (y .«record») (y .free)) (take a (drop (o + bodyLen a (length (payloadFor y))) l))) (cut-same t u c) ∙ busy-unsealed a some base t o y bs v in
+      search
+
+  -- a step keeps the invariant, and so does whatever a cut within it leaves
+  record Keeps (s : State) (c : Call) (o : Outcome) : Type 0 where
+    kept : Inv (called s c o)
+    torn : (u : List ℕ) → Cut (s .machine .base) (o .leaves .region) u → Inv (cutOff s (sealedIn a s c u) u)
+
+  -- a step that is refused
   module _ (s : State) (i : Inv s) (e : Refusal) where
     abbrev refusal : Outcome
     refusal = outcome (refusedWith e) (s .machine)
@@ -174,7 +180,7 @@ module _ (n a r : ℕ) (ok : allowed n a r ≡ true) where
     no-barrier = record { kept = i; torn = cut-inv s i }
 
     no-commit : Keeps s commit refusal
-    no-commit = record { kept = i; torn = cut-inv s i }
+    no-commit = record { kept = i; torn = λ u c. subst (λ b. Inv (cutOff s b u)) (sym (unsealed s i u c)) (cut-inv s i u c) }
 
   -- the journal is ready at o: a stage begins a record or is refused, the other steps are refused
   module _ (s : List ℕ) (o : ℕ) (w : WriteAmplification) (bs : List Given) (x : Sound s) (v : Ready a s o bs) where
@@ -317,31 +323,51 @@ module _ (n a r : ℕ) (ok : allowed n a r ≡ true) where
   under-nothing : {A : Type 0} {x : Given} → under x ≡ nothing → A
   under-nothing e = let z : _≡_ {A = ℕ} 0 1 = cc in absurd (omega arith)
 
-  -- every call that may stand keeps the invariant, and so does a cut within it
-  call-inv : (s : State) (c : Call) → Inv s → Stands (s .book) c → Keeps s c (done a r (s .machine) c)
-  call-inv s (opening page) (lost-inv u bs x v) h = calm-opening u bs x v none false page (h .1)
-  call-inv s (opening page) (ready-inv u o w bs x v) h = calm-opening u bs x (ready-shape a u o bs v) (holds (idle o w)) true page (h .1)
-  call-inv s (opening page) (staged-inv base u o y w bs z x v) h = under-nothing (h .0)
-  call-inv s (opening page) (firm-inv base u o y w bs x v) h = under-nothing (h .0)
-  call-inv s (stage q page) (lost-inv u bs x v) h = false-true (h .0)
-  call-inv s (stage q page) (ready-inv u o w bs x v) h = ready-stage u o w bs x v q page (h .2)
-  call-inv s (stage q page) (staged-inv base u o y w bs z x v) h = staged-stage base u o y w bs z x v q page
-  call-inv s (stage q page) (firm-inv base u o y w bs x v) h = firm-stage base u o y w bs x v q page
-  call-inv s barrier (lost-inv u bs x v) h = false-true h
-  call-inv s barrier (ready-inv u o w bs x v) h = ready-barrier u o w bs x v
-  call-inv s barrier (staged-inv base u o y w bs z x v) h = staged-barrier base u o y w bs z x v
-  call-inv s barrier (firm-inv base u o y w bs x v) h = firm-barrier base u o y w bs x v
-  call-inv s commit (lost-inv u bs x v) h = false-true h
-  call-inv s commit (ready-inv u o w bs x v) h = ready-commit u o w bs x v
-  call-inv s commit (staged-inv base u o y w bs z x v) h = staged-commit base u o y w bs z x v
-  call-inv s commit (firm-inv base u o y w bs x v) h = firm-commit base u o y w bs x v
+  -- an opening that may stand keeps the invariant
+  opening-inv : (s : State) (page : List ℕ) → Inv s → s .book .way ≡ nothing → Large page → Inv (called s (opening page) (done a r (s .machine) (opening page)))
+  opening-inv s page (lost-inv u bs x v) e h = calm-opening u bs x v none false page h
+  opening-inv s page (ready-inv u o w bs x v) e h = calm-opening u bs x (ready-shape a u o bs v) (holds (idle o w)) true page h
+  opening-inv s page (staged-inv base u o y w bs z x v) e h = under-nothing e
+  opening-inv s page (firm-inv base u o y w bs x v) e h = under-nothing e
 
-  -- so does every event
+  -- wherever it stands it writes nothing, so that a cut within it is one between two calls
+  opening-torn : (s : State) (page u : List ℕ) → Inv s → TornIn a r (s .machine) (opening page) u → Inv (cutOff s false u)
+  opening-torn s page u i c = cut-inv s i u (subst (λ t. Cut (s .machine .base) t u) (same (opened a r (s .machine .region) page .opening)) c) where
+    same : (y : Opening) → afterOpening (s .machine) y .leaves .region ≡ s .machine .region
+    same (Opened j) = refl
+    same (NoJournal e) = refl
+
+  -- a step keeps it where there is a journal
+  stage-inv : (s : State) (q : Given) (page : List ℕ) → Inv s → Stands (s .book) (stage q page) → Keeps s (stage q page) (done a r (s .machine) (stage q page))
+  stage-inv s q page (lost-inv u bs x v) h = false-true (h .0)
+  stage-inv s q page (ready-inv u o w bs x v) h = ready-stage u o w bs x v q page (h .2)
+  stage-inv s q page (staged-inv base u o y w bs z x v) h = staged-stage base u o y w bs z x v q page
+  stage-inv s q page (firm-inv base u o y w bs x v) h = firm-stage base u o y w bs x v q page
+
+  barrier-inv : (s : State) → Inv s → s .book .journal ≡ true → Keeps s barrier (done a r (s .machine) barrier)
+  barrier-inv s (lost-inv u bs x v) h = false-true h
+  barrier-inv s (ready-inv u o w bs x v) h = ready-barrier u o w bs x v
+  barrier-inv s (staged-inv base u o y w bs z x v) h = staged-barrier base u o y w bs z x v
+  barrier-inv s (firm-inv base u o y w bs x v) h = firm-barrier base u o y w bs x v
+
+  commit-inv : (s : State) → Inv s → s .book .journal ≡ true → Keeps s commit (done a r (s .machine) commit)
+  commit-inv s (lost-inv u bs x v) h = false-true h
+  commit-inv s (ready-inv u o w bs x v) h = ready-commit u o w bs x v
+  commit-inv s (staged-inv base u o y w bs z x v) h = staged-commit base u o y w bs z x v
+  commit-inv s (firm-inv base u o y w bs x v) h = firm-commit base u o y w bs x v
+
+  -- every event keeps the invariant
   pub keeps : (s : State) (e : Event) → Inv s → Allows a r s e → Inv (step a r s e)
   unfolding step
-  keeps s (call c) i h = call-inv s c i h .kept
+  keeps s (call (opening page)) i h = opening-inv s page i (h .0) (h .1)
+  keeps s (call (stage q page)) i h = stage-inv s q page i h .kept
+  keeps s (call barrier) i h = barrier-inv s i h .kept
+  keeps s (call commit) i h = commit-inv s i h .kept
   keeps s (cut t) i h = cut-inv s i t h
-  keeps s (cutIn c t) i h = call-inv s c i (h .0) .torn t (h .1)
+  keeps s (cutIn (opening page) t) i h = opening-torn s page t i (h .1)
+  keeps s (cutIn (stage q page) t) i h = stage-inv s q page i (h .0) .torn t (h .1)
+  keeps s (cutIn barrier t) i h = barrier-inv s i (h .0) .torn t (h .1)
+  keeps s (cutIn commit t) i h = commit-inv s i (h .0) .torn t (h .1)
 
   pub holds-after : (s : State) (es : List Event) → Inv s → Valid a r s es → Inv (run a r s es)
   unfolding run

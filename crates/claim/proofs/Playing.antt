@@ -33,9 +33,7 @@ module _ (a r : ℕ) where
       ap (λ (x : Result). record { verdicts = o .verdict ∷ x .verdicts; state = x .state }) (plays-defined (called s c o) es z p)
       ∙ ap (λ q. record { verdicts = q .verdict ∷ verdicts a r (called s c q) es; state = run a r (called s c q) es }) (made-done (s .machine) c o k)
   plays-defined _ _ _ (cuts s t es z p) = plays-defined (cutOff s false t) es z p
-  plays-defined _ _ _ (cutsIn s c o t es z k p) =
-      plays-defined (cutOff s (sealedIn a s c (o .verdict) t) t) es z p
-      ∙ ap (λ q. defined (cutOff s (sealedIn a s c (q .verdict) t) t) es) (made-done (s .machine) c o k)
+  plays-defined _ _ _ (cutsIn s c t es z p) = plays-defined (cutOff s (sealedIn a s c t) t) es z p
 
 -- a barrier only reads the region; it and a commit have no page
 barred-keeps : (j : Journal) (region : List ℕ) → record { out = barred j region .out; region = region; page = [] } ≡ barred j region
@@ -93,9 +91,8 @@ module _ (n a r : ℕ) (ok : allowed n a r ≡ true) where
       calls s c o es (defined a r (called s c o) es) (makes s c i (h .0)) (plays (called s c o) es (keeps n a r ok s (call c) i (h .0)) (h .1))
   plays s (cut t ∷ es) i h = cuts s t es (defined a r (cutOff s false t) es) (plays (cutOff s false t) es (keeps n a r ok s (cut t) i (h .0)) (h .1))
   plays s (cutIn c t ∷ es) i h =
-      let o : Outcome = done a r (s .machine) c in
-      let u : State = cutOff s (sealedIn a s c (o .verdict) t) t in
-      cutsIn s c o t es (defined a r u es) (makes s c i (h .0 .0)) (plays u es (keeps n a r ok s (cutIn c t) i (h .0)) (h .1))
+      let u : State = cutOff s (sealedIn a s c t) t in
+      cutsIn s c t es (defined a r u es) (plays u es (keeps n a r ok s (cutIn c t) i (h .0)) (h .1))
 
   -- and comes to what the definitions give, and to nothing else
   pub plays-exactly : (s : State) (es : List Event) → Inv n a r ok s → Valid a r s es → Exactly (Plays a r s es) (defined a r s es)

@@ -165,7 +165,7 @@ module _ (region : List ℕ) (b : AllBytes region) (g : Geometry) (ok : allowed 
       go (y .out .answer) (ap (λ z. z .answer) same-out)
       (λ f i.
       rw (← ap (λ z. z .state) same-out)
-      (reads-found n (x .out .state) (later pages) (y .page) (step-keeps s region (pages 0) .settings ∙ e) (λ j. hs (suc j))
+      (reads-found n (x .out .state) (later pages) (y .page) (step-keeps s region (pages 0) .settings ∙ e) (λ j. hs _)
       (omega (arith, step-keeps s region page .long, h))
       (omega (arith, found-less region (pages 0) s (x .out) (x .page) (record { all = refl }) f i))))
     where

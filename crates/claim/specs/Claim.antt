@@ -1,5 +1,5 @@
--- Demand 3: the claim, a clause for each of its sentences.
--- A region of n bytes, program unit a, read unit r; es is the list of openings, stages, barriers, commits and cuts.
+-- Demand 3: the claim, a clause for each thing that the demand claims.
+-- A region of n bytes, program unit a, read unit r; es is the list: calls, refused ones too, and cuts.
 use mathlib.Core.Path.{_≡_}
 use mathlib.Core.Bool.{true}
 use mathlib.Core.List.{List, _∷_, _++_}
@@ -20,17 +20,12 @@ pub record Exactly {A : Type 0} (P : A → Type 0) (x : A) : Type 0 where
   pub has : P x
   pub only : (y : A) → P y → y ≡ x
 
--- x is one of the records bs
-pub record Among (x : Given) (bs : List Given) : Type 0 where
-  pub before : List Given
-  pub behind : List Given
-  pub is : bs ≡ before ++ (x ∷ behind)
-
--- a record is under way in s, and it is one of the records bs
+-- a record is under way in s, and in bs it stands right behind the records that the book of s has
 pub record Kept (s : State) (bs : List Given) : Type 0 where
   pub one : Given
   pub way : s .book .way ≡ under one
-  pub among : Among one bs
+  pub behind : List Given
+  pub is : bs ≡ s .book .records ++ (one ∷ behind)
 
 module _ (n a r : ℕ) where
   abbrev pub units : Geometry
@@ -46,12 +41,12 @@ module _ (n a r : ℕ) where
     -- a caller who reads from offset 0, with any large page at each step, reads the book's records and no others
     pub finds-book : (pages : ℕ → List ℕ) → ((i : ℕ) → Large (pages i))
         → Exactly (Reads (after es .machine .region) (fresh units) pages) (allGiven (after es .book .records))
-    -- a record whose commit was not refused is in the book at the list's end
+    -- the record of a commit that was not refused is in the book at the list's end, behind those that it came after
     pub has-committed : (fs gs : List Event)
         → es ≡ fs ++ (call commit ∷ gs)
         → done a r (after fs .machine) commit .verdict ≡ unrefused
         → Kept (after fs) (after es .book .records)
-    -- a journal that is opened now has nothing but 0xFF from its offset on
+    -- an opening that succeeds after the list: nothing is programmed from its journal's offset on, the append offset
     pub opens-erased : (page page′ : List ℕ) (j : Journal)
         → Opens a r (after es .machine .region) page (Opened j) page′
         → erased (drop (j .offset) (after es .machine .region)) ≡ true
