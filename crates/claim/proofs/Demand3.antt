@@ -1,21 +1,19 @@
 -- The claim of demand 3 holds after every list.
 -- Nothing is assumed of the checks' values, nor of which bits a cut takes.
-use mathlib.Core.Path.{_≡_, sym, ap, subst}
-use mathlib.Core.Bool.{true}
+use mathlib.Core.Path.{sym, ap, subst}
 use mathlib.Core.List.{List, _∷_}
 use Prim.Native.Nat.{ℕ}
-use Rattle.storage.specs.Settings.{allowed}
 use Rattle.recovery.specs.Next.{fresh}
 use Rattle.journal.proofs.Erased.{opened-erased}
-use Rattle.claim.specs.Events.{commit, Event, call, Valid, start}
+use Rattle.claim.specs.Events.{commit, call, Valid, start}
 use Rattle.claim.specs.Promised.{Reads}
-use Rattle.claim.specs.Claim.{Exactly, Kept, units, after, Claim}
+use Rattle.claim.specs.Claim.{Exactly, Kept, units, after, Theorem}
 use Rattle.claim.proofs.Invariant.{Inv, at-first, sound-of, run-finds, inv-after}
 use Rattle.claim.proofs.Growth.{valid-front, committed-kept}
 use Rattle.claim.proofs.Playing.{plays-exactly}
 use Rattle.claim.proofs.Reading.{reads-exactly}
 
-pub demand-3 : (n a r : ℕ) → allowed n a r ≡ true → (es : List Event) → Valid a r (start n) es → Claim n a r es
+pub demand-3 : Theorem
 demand-3 n a r ok es valid =
     let region : List ℕ = after n a r es .machine .region in
     let i : Inv n a r ok (after n a r es) = inv-after n a r ok es valid in

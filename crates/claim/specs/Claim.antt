@@ -6,13 +6,15 @@ use mathlib.Core.List.{List, _∷_, _++_}
 use Prim.Native.Nat.{ℕ}
 use lib.ListN.{drop}
 use Rattle.storage.specs.declared.geometry.Geometry.{Geometry}
+use Rattle.storage.specs.Settings.{allowed}
 use Rattle.storage.specs.Media.{erased}
 use Rattle.recovery.specs.Next.{fresh}
 use Rattle.journal.specs.declared.Journal.{Journal}
 use Rattle.journal.specs.declared.Opening.the-variants.{Opened}
 use Rattle.journal.specs.Opening.{Opens}
 use Rattle.claim.specs.Saying.{Given, allGiven}
-use Rattle.claim.specs.Events.{Event, call, commit, unrefused, done, under, State, run, verdicts, start, Large}
+use Rattle.claim.specs.Events.{Event, call, commit, unrefused, done, under, State, run, verdicts}
+use Rattle.claim.specs.Events.{Large, Valid, start}
 use Rattle.claim.specs.Promised.{Plays, Reads}
 
 -- x has the property P, and nothing else has
@@ -50,3 +52,7 @@ module _ (n a r : ℕ) where
     pub opens-erased : (page page′ : List ℕ) (j : Journal)
         → Opens a r (after es .machine .region) page (Opened j) page′
         → erased (drop (j .offset) (after es .machine .region)) ≡ true
+
+-- the theorem, proved in `proofs/Demand3.antt`: within the limits of the settings, the claim holds of every list meant
+abbrev pub Theorem : Type 0
+Theorem = (n a r : ℕ) → allowed n a r ≡ true → (es : List Event) → Valid a r (start n) es → Claim n a r es
