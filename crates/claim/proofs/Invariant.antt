@@ -1,7 +1,7 @@
 -- What holds of machine and book after every list that demand 3 speaks of: every event keeps it.
 -- Nothing is assumed of the checks' values, nor of which bits a cut takes.
 use mathlib.Core.Path.{_≡_, refl, sym, ap, _∙_, subst}
-use mathlib.Core.Bool.{Bool, true, false, not, _&&_, and-eq-true-iff}
+use mathlib.Core.Bool.{Bool, true, false, not, _&&_, false≢true, and-eq-true-iff}
 use mathlib.Core.List.{List, [], _∷_, _++_}
 use Prim.Native.Nat.{ℕ, zero, suc, _+_, _-_, _≤_, _<_}
 use native.Mathlib.Omega.{arith}
@@ -82,9 +82,11 @@ module _ (n a r : ℕ) (ok : allowed n a r ≡ true) where
   pub some : 0 < a
   some = limits n a r ok .program-least
 
-  pub reads : readUnit r ≡ true
+  pub both-units : (programUnit a ≡ true) × (readUnit r ≡ true)
   unfolding allowed
-  reads = and-eq-true-iff (regionLength n && programUnit a) (readUnit r) .0 ok .1
+  both-units =
+      let both = and-eq-true-iff (regionLength n && programUnit a) (readUnit r) .0 ok in
+      (and-eq-true-iff (regionLength n) (programUnit a) .0 (both .0) .1, both .1)
 
   -- a region of n bytes
   pub record Sound (s : List ℕ) : Type 0 where
@@ -122,7 +124,7 @@ module _ (n a r : ℕ) (ok : allowed n a r ≡ true) where
   unfolding opened settings
   opening-is s page x h =
       let t : Goes (fresh g) (founds (fresh g) s page) (toEnd (fresh g) s page .out) (walk a s 0) =
-      run-without-page (fresh g) s page refl ok (x .size) (x .bytes) (capacity-large (length page) r reads (omega (arith, h))) in
+      run-without-page (fresh g) s page refl ok (x .size) (x .bytes) (capacity-large (length page) r (both-units .1) (omega (arith, h))) in
       rw (x .size, ok) (ap (λ y. openBy g (y .state .offset) (y .answer) (y .state .ending)) (t .ends))
 
   -- a region in which nothing is loose
@@ -317,9 +319,6 @@ module _ (n a r : ℕ) (ok : allowed n a r ≡ true) where
           torn = λ u c. torn-seal u c (sealHolds check (take a (drop slot u))) refl;
         }))
 
-  pub false-true : {A : Type 0} → false ≡ true → A
-  false-true e = let z : _≡_ {A = ℕ} 0 1 = cc in absurd (omega arith)
-
   under-nothing : {A : Type 0} {x : Given} → under x ≡ nothing → A
   under-nothing e = let z : _≡_ {A = ℕ} 0 1 = cc in absurd (omega arith)
 
@@ -339,19 +338,19 @@ module _ (n a r : ℕ) (ok : allowed n a r ≡ true) where
 
   -- a step keeps it where there is a journal
   stage-inv : (s : State) (q : Given) (page : List ℕ) → Inv s → Stands (s .book) (stage q page) → Keeps s (stage q page) (done a r (s .machine) (stage q page))
-  stage-inv s q page (lost-inv u bs x v) h = false-true (h .0)
+  stage-inv s q page (lost-inv u bs x v) h = absurd (false≢true (h .0))
   stage-inv s q page (ready-inv u o w bs x v) h = ready-stage u o w bs x v q page (h .2)
   stage-inv s q page (staged-inv base u o y w bs z x v) h = staged-stage base u o y w bs z x v q page
   stage-inv s q page (firm-inv base u o y w bs x v) h = firm-stage base u o y w bs x v q page
 
   barrier-inv : (s : State) → Inv s → s .book .journal ≡ true → Keeps s barrier (done a r (s .machine) barrier)
-  barrier-inv s (lost-inv u bs x v) h = false-true h
+  barrier-inv s (lost-inv u bs x v) h = absurd (false≢true h)
   barrier-inv s (ready-inv u o w bs x v) h = ready-barrier u o w bs x v
   barrier-inv s (staged-inv base u o y w bs z x v) h = staged-barrier base u o y w bs z x v
   barrier-inv s (firm-inv base u o y w bs x v) h = firm-barrier base u o y w bs x v
 
   commit-inv : (s : State) → Inv s → s .book .journal ≡ true → Keeps s commit (done a r (s .machine) commit)
-  commit-inv s (lost-inv u bs x v) h = false-true h
+  commit-inv s (lost-inv u bs x v) h = absurd (false≢true h)
   commit-inv s (ready-inv u o w bs x v) h = ready-commit u o w bs x v
   commit-inv s (staged-inv base u o y w bs z x v) h = staged-commit base u o y w bs z x v
   commit-inv s (firm-inv base u o y w bs x v) h = firm-commit base u o y w bs x v
@@ -395,7 +394,7 @@ module _ (n a r : ℕ) (ok : allowed n a r ≡ true) where
   pub run-finds : (s : State) → Inv s → (page : List ℕ) → Large page → allSaidIn (s .machine .region) (founds (fresh g) (s .machine .region) page) ≡ allGiven (s .book .records)
   run-finds s i page h =
       let u : List ℕ = s .machine .region in
-      ap (allSaidIn u) (run-without-page (fresh g) u page refl ok (sound-of s i .size) (sound-of s i .bytes) (capacity-large (length page) r reads (omega (arith, h))) .finds)
+      ap (allSaidIn u) (run-without-page (fresh g) u page refl ok (sound-of s i .size) (sound-of s i .bytes) (capacity-large (length page) r (both-units .1) (omega (arith, h))) .finds)
       ∙ finds a some u (s .book .records) (shape-of s i)
 
   -- and all this holds after every list that demand 3 speaks of

@@ -1,7 +1,7 @@
 -- Whatever keeps the calls' promises is what the papers' definitions give, call by call and over a whole list.
 -- Assumes nothing.
 use mathlib.Core.Path.{_≡_, refl, sym, ap, subst, _∙_}
-use mathlib.Core.Bool.{true, false, not}
+use mathlib.Core.Bool.{true, false, not, false≢true}
 use mathlib.Core.List.{List, [], _∷_}
 use Prim.Native.Nat.{ℕ}
 use Rattle.core.proofs.Choice.{cond-case}
@@ -12,7 +12,7 @@ use Rattle.append.specs.Append.{Left, isNext, staged, barred, committed}
 use Rattle.claim.specs.Events.{Call, opening, stage, barrier, commit, Event, call, cut, cutIn, Held, holds, Machine, Outcome, afterOpening, stepped, stepBy, done, State, sealedIn, called, cutOff, step, run, verdicts, Stands, Valid}
 use Rattle.claim.specs.Promised.{Made, opens, stages, confirms, commits, Result, Plays, rests, calls, cuts, cutsIn}
 use Rattle.claim.specs.Claim.{Exactly}
-use Rattle.claim.proofs.Invariant.{on-device, Inv, lost-inv, ready-inv, staged-inv, firm-inv, false-true, keeps}
+use Rattle.claim.proofs.Invariant.{on-device, Inv, lost-inv, ready-inv, staged-inv, firm-inv, keeps}
 
 module _ (a r : ℕ) where
   -- a call's results that keep its promise are those that the definitions give
@@ -55,7 +55,7 @@ record Present (h : Held) : Type 0 where
 
 module _ (n a r : ℕ) (ok : allowed n a r ≡ true) where
   present : (s : State) → Inv n a r ok s → s .book .journal ≡ true → Present (s .machine .held)
-  present s (lost-inv u bs x v) e = false-true n a r ok e
+  present s (lost-inv u bs x v) e = absurd (false≢true e)
   present s (ready-inv u o w bs x v) e = record { one = _; is = refl }
   present s (staged-inv base u o y w bs z x v) e = record { one = _; is = refl }
   present s (firm-inv base u o y w bs x v) e = record { one = _; is = refl }

@@ -1,7 +1,7 @@
 -- What a caller reads step by step, with a page of its own lent to each step, is what a run with one page finds.
 -- Assumes nothing.
 use mathlib.Core.Path.{_≡_, refl, sym, ap, ap₂, _∙_, subst}
-use mathlib.Core.Bool.{Bool, true, false, cond, not, _&&_, and-eq-true-iff}
+use mathlib.Core.Bool.{Bool, true, false, cond, not}
 use mathlib.Core.List.{List, _∷_}
 use Prim.Native.Nat.{ℕ, zero, suc, _+_, _-_, _<_, _≤_}
 use native.Mathlib.Omega.{arith}
@@ -11,7 +11,7 @@ use lib.Seq.{getD-drop}
 use Rattle.core.proofs.Choice.{cond-case}
 use Rattle.core.specs.declared.error.Refusal.{Refusal}
 use Rattle.storage.specs.declared.geometry.Geometry.{Geometry}
-use Rattle.storage.specs.Settings.{allowed, regionLength, programUnit, readUnit, Limits}
+use Rattle.storage.specs.Settings.{allowed, programUnit, readUnit, Limits}
 use Rattle.storage.proofs.Units.{limits}
 use Rattle.roundtrip.specs.Typed.{AllBytes}
 use Rattle.place.specs.Stands.{stands}
@@ -25,7 +25,7 @@ use Rattle.recovery.specs.declared.next.Answer.the-variants.{Found, Ended, Refu
 use Rattle.recovery.specs.declared.next.Outcome.{Outcome}
 use Rattle.recovery.specs.declared.next.Outcome.the-variants.{Met, Passed, Over}
 use Rattle.recovery.specs.Reads.{capacityOf, made, wanted, seenBy}
-use Rattle.recovery.specs.Next.{outcomeOf, Walk, onward, walkFrom, reach, Done, stepped, finished, ran, isOpen, opened, step, NextStep, fresh, partAt}
+use Rattle.recovery.specs.Next.{outcomeOf, Walk, onward, walkFrom, reach, Done, stepped, finished, ran, isOpen, opened, step, NextStep, fresh}
 use Rattle.recovery.proofs.Pages.{page-never-matters, capacity-large}
 use Rattle.recovery.proofs.Near.{laid-long}
 use Rattle.finish.specs.Finish.{passes, foundsTo, founds}
@@ -36,6 +36,7 @@ use Rattle.claim.specs.Promised.{later, Reads, finds, ends, stops}
 use Rattle.claim.specs.Claim.{Exactly}
 use Rattle.claim.proofs.Said.{saidIn, allSaidIn}
 use Rattle.claim.proofs.Paged.{payload-paged}
+use Rattle.claim.proofs.Invariant.{both-units}
 
 -- two walks that differ at most in their reads
 record Same (w v : Walk) : Type 0 where
@@ -85,19 +86,20 @@ found-ended e = let z : _≡_ {A = ℕ} 0 1 = cc in absurd (omega arith)
 found-refused : {A : Type 0} {f : Record} {u : Refusal} → Found f ≡ Refused u → A
 found-refused e = let z : _≡_ {A = ℕ} 0 1 = cc in absurd (omega arith)
 
--- the same record, from the same page, with the same behind it
-same-said : (f h : Record) (q t v w : List ℕ) (us vs : List Said) → f ≡ h → q ≡ t → us ≡ vs
-    → v ≡ partAt q (f .«record» .payload .place) (f .«record» .payload .len) → w ≡ partAt t (h .«record» .payload .place) (h .«record» .payload .len)
+-- the same record, with the same payload, and the same behind it
+same-said : (f h : Record) (v w : List ℕ) (us vs : List Said) → f ≡ h → v ≡ w → us ≡ vs
     → record { «record» = f .«record» .«record»; payload = v } ∷ us ≡ record { «record» = h .«record» .«record»; payload = w } ∷ vs
-same-said f h q t v w us vs a b c d e = rw (d, e, a, b, c)
+same-said f h v w us vs a b c = rw (a, b, c)
 
 -- a caller reads one thing only
 reads-one : (region : List ℕ) (s : Recovery) (pages : ℕ → List ℕ) (xs ys : List Said) → Reads region s pages xs → Reads region s pages ys → xs ≡ ys
 reads-one region _ _ _ _ (finds s pages x q f v us k i e t) (finds _ _ y q₂ h w vs l j d u) =
     let both = same-done region s (pages 0) x y q q₂ k l in
     let found : Found f ≡ Found h = sym i ∙ ap (λ (z : Done). z .out .answer) both ∙ j in
-    same-said f h q q₂ v w us vs (cc) (ap (λ (z : Done). z .page) both)
-    (reads-one region (x .state) (later pages) us vs t (subst (λ (z : Done). Reads region (z .out .state) (later pages) vs) (sym both) u)) e d
+    let page : q ≡ q₂ = ap (λ (z : Done). z .page) both in
+    let fh : f ≡ h = cc in
+    same-said f h v w us vs fh (cc)
+    (reads-one region (x .state) (later pages) us vs t (subst (λ (z : Done). Reads region (z .out .state) (later pages) vs) (sym both) u))
 reads-one region _ _ _ _ (finds s pages x q f v us k i e t) (ends _ _ y q₂ l j) = one-answer region s (pages 0) x y q q₂ k l i j found-ended
 reads-one region _ _ _ _ (finds s pages x q f v us k i e t) (stops _ _ y q₂ n l j) = one-answer region s (pages 0) x y q q₂ k l i j found-refused
 reads-one region _ _ _ _ (ends s pages x q k i) (finds _ _ y q₂ h w vs l j d u) = one-answer region s (pages 0) y x q₂ q l k j i found-ended
@@ -118,10 +120,7 @@ module _ (region : List ℕ) (b : AllBytes region) (g : Geometry) (ok : allowed 
   k = limits (g .bytes) a r ok
 
   units : (programUnit a ≡ true) × (readUnit r ≡ true)
-  unfolding allowed
-  units =
-      let both = and-eq-true-iff (regionLength (g .bytes) && programUnit a) (readUnit r) .0 ok in
-      (and-eq-true-iff (regionLength (g .bytes)) (programUnit a) .0 (both .0) .1, both .1)
+  units = both-units (g .bytes) a r ok
 
   seen : (cap o : ℕ) → 66048 ≤ cap → seenBy cap (wanted a r cap o (drop o region)) (stands a (drop o region)) ≡ Stands (stands a (drop o region))
   seen cap o c = page-never-matters a r cap o (drop o region) (units .0) (k .read-least) (k .read-most) (λ i. rw (getD-drop o region i 0) (b (o + i))) c
