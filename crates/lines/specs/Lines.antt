@@ -3,7 +3,7 @@ use mathlib.Core.List.{List, [], _∷_, _++_}
 use Prim.Native.Nat.{ℕ}
 use Rattle.core.specs.Kinds.{kindOf, seqOf}
 use Rattle.core.specs.Refusals.{numbered}
-use Rattle.text.specs.Text.{decimal}
+use Rattle.text.specs.Text.{codes, decimal}
 use Rattle.recovery.specs.declared.next.Ending.{Ending}
 use Rattle.recovery.specs.declared.next.Ending.the-variants.{Open, Clean, Damaged, Incomplete, Unsealed}
 use Rattle.recovery.specs.declared.next.Found.{Found as Record}
@@ -23,14 +23,6 @@ recordLine x =
     ++ (field (seqOf (x .«record» .«record»)) 44
     ++ field (x .«record» .payload .len) 10))
 
--- `end`, and the ending: `clean`, `damaged`, `unsealed`; a page of 32,768 bytes leaves a listing no other
-abbrev pub ended : Ending → List ℕ
-ended Clean = 101 ∷ 110 ∷ 100 ∷ 44 ∷ 99 ∷ 108 ∷ 101 ∷ 97 ∷ 110 ∷ 44 ∷ []
-ended Damaged = 101 ∷ 110 ∷ 100 ∷ 44 ∷ 100 ∷ 97 ∷ 109 ∷ 97 ∷ 103 ∷ 101 ∷ 100 ∷ 44 ∷ []
-ended Unsealed = 101 ∷ 110 ∷ 100 ∷ 44 ∷ 117 ∷ 110 ∷ 115 ∷ 101 ∷ 97 ∷ 108 ∷ 101 ∷ 100 ∷ 44 ∷ []
-ended Incomplete = 101 ∷ 110 ∷ 100 ∷ 44 ∷ 105 ∷ 110 ∷ 99 ∷ 111 ∷ 109 ∷ 112 ∷ 108 ∷ 101 ∷ 116 ∷ 101 ∷ 44 ∷ []
-ended Open = 101 ∷ 110 ∷ 100 ∷ 44 ∷ 111 ∷ 112 ∷ 101 ∷ 110 ∷ 44 ∷ []
-
 -- document 01's number of the refusal, 0 where there is none
 abbrev pub refusalOf : Answer → ℕ
 refusalOf (Refused e) = numbered e .number
@@ -41,10 +33,21 @@ refusalOf (Found x) = 0
 unfoldable pub totals : ℕ → ℕ → List ℕ
 totals n b = field n 44 ++ field b 10
 
--- the ending, its offset, its refusal, the totals
-unfoldable pub endLine : Stepped → ℕ → ℕ → List ℕ
-endLine x n b = ended (x .state .ending) ++ (field (x .state .offset) 44 ++ (field (refusalOf (x .answer)) 44 ++ totals n b))
+-- a last line that begins with a word: where the recovery ended, its refusal, the totals
+unfoldable pub lastLine : List ℕ → Stepped → ℕ → ℕ → List ℕ
+lastLine word x n b = word ++ (field (x .state .offset) 44 ++ (field (refusalOf (x .answer)) 44 ++ totals n b))
 
--- `refused,1`
+-- the last line by the ending; a recovery that is open or incomplete has none
+abbrev pub endBy : Ending → Stepped → ℕ → ℕ → List ℕ
+endBy Clean x n b = lastLine (codes "end,clean,") x n b
+endBy Damaged x n b = lastLine (codes "end,damaged,") x n b
+endBy Unsealed x n b = lastLine (codes "end,unsealed,") x n b
+endBy Incomplete x n b = []
+endBy Open x n b = []
+
+abbrev pub endLine : Stepped → ℕ → ℕ → List ℕ
+endLine x n b = endBy (x .state .ending) x n b
+
+-- the only line where the input is refused
 abbrev pub refusedLine : List ℕ
-refusedLine = 114 ∷ 101 ∷ 102 ∷ 117 ∷ 115 ∷ 101 ∷ 100 ∷ 44 ∷ 49 ∷ 10 ∷ []
+refusedLine = codes "refused,1\n"

@@ -1,6 +1,6 @@
 -- The parts of an input around a byte, and the exits of a listing.
 -- Assumes nothing.
-use mathlib.Core.Path.{_≡_, refl, sym}
+use mathlib.Core.Path.{_≡_, sym, _∙_}
 use mathlib.Core.List.{List}
 use Prim.Native.Nat.{ℕ, _+_, _-_, _≤_, _<_}
 use native.Mathlib.Omega.{arith}
@@ -20,8 +20,10 @@ use Rattle.recovery.specs.Next.{fresh}
 use Rattle.report.specs.declared.input.Units.{Units}
 use Rattle.report.specs.declared.input.Units.the-variants.{Given, Bad as NoUnits}
 use Rattle.lines.specs.Lines.{refusedLine}
-use Rattle.report.specs.Report.{reportOf, givenBy, unitsOf, refusedWith, listedRegion, listed, Prints}
+use Rattle.report.specs.Report.{givenBy, unitsOf, listedRegion, listing, Prints}
+use Rattle.report.specs.Inside.{Reports}
 use Rattle.report.proofs.Reporting.{prints}
+use Rattle.report.proofs.Covered.{pagedWith, page-unseen}
 
 -- the bytes before a place, and those behind it
 module _ (s : List ℕ) (n : ℕ) where
@@ -52,35 +54,37 @@ module _ (line : List ℕ) (c : ℕ) (ec : c ≡ placeOf 44 line) where
   two-numbers n a r u x y ex ey ea er eu = rw (← ec, ne-eqb c (length line) n, ← ex, ← ey, ← ea, ← er) eu
 
 -- what a refusal leaves
-refuses : (page out : List ℕ) (n : ℕ) (out′ : List ℕ) → Puts out 0 refusedLine n out′ → Prints (refusedWith page) out n out′ page
-refuses page out n out′ p = prints (refusedWith page) out n out′ page p refl
+refuses : (out : List ℕ) (n : ℕ) (out′ : List ℕ) → Puts out 0 refusedLine n out′ → Prints refusedLine out n out′
+refuses out n out′ p = prints refusedLine out n out′ p
 
-module _ (a r : ℕ) (region page out : List ℕ) (n : ℕ) (out′ : List ℕ) where
-  pub too-long : 32768 < length region → Puts out 0 refusedLine n out′ → Prints (listedRegion a r region page) out n out′ page
+module _ (a r : ℕ) (region out : List ℕ) (n : ℕ) (out′ : List ℕ) where
+  pub too-long : 32768 < length region → Puts out 0 refusedLine n out′ → Prints (listedRegion a r region) out n out′
   unfolding listedRegion
-  too-long h p = rw (lt-ltb 32768 (length region) h) (refuses page out n out′ p)
+  too-long h p = rw (lt-ltb 32768 (length region) h) (refuses out n out′ p)
 
   -- k is what the check of the settings answered
   module _ (h : length region ≤ 32768) (k : Checked) (ek : k ≡ settings (length region) a r) where
-    pub not-allowed : (e : Refusal) → k ≡ Refused e → Puts out 0 refusedLine n out′ → Prints (listedRegion a r region page) out n out′ page
+    pub not-allowed : (e : Refusal) → k ≡ Refused e → Puts out 0 refusedLine n out′ → Prints (listedRegion a r region) out n out′
     unfolding listedRegion
-    not-allowed e f p = rw (le-ltb 32768 (length region) h, ← ek, f) (refuses page out n out′ p)
+    not-allowed e f p = rw (le-ltb 32768 (length region) h, ← ek, f) (refuses out n out′ p)
 
-    pub lists-region : (g : Geometry) (s : Recovery) (page′ : List ℕ) → k ≡ Allowed g → s ≡ fresh g → Prints (reportOf s region page) out n out′ page′ → Prints (listedRegion a r region page) out n out′ page′
+    -- through a page of 32,768 bytes, whatever it held, the lines are those of the walk with no page
+    pub lists-region : (g : Geometry) (s : Recovery) (page page′ : List ℕ) → k ≡ Allowed g → s ≡ fresh g → 32768 ≡ length page → Reports s region page out n out′ page′
+        → Prints (listedRegion a r region) out n out′
     unfolding listedRegion
-    lists-region g s page′ f i t = rw (le-ltb 32768 (length region) h, ← ek, f, ← i) t
+    lists-region g s page page′ f i l t = rw (le-ltb 32768 (length region) h, page-unseen a r region page h l, ← ek, f, ← i) (t .lines)
 
 -- e is the first line feed's place
-module _ (input page out : List ℕ) (n : ℕ) (out′ : List ℕ) (e : ℕ) (ee : e ≡ placeOf 10 input) where
-  pub no-line : e ≡ length input → Puts out 0 refusedLine n out′ → Prints (listed input page) out n out′ page
-  unfolding listed
-  no-line f p = rw (← ee, eq-eqb e (length input) f) (refuses page out n out′ p)
+module _ (input out : List ℕ) (n : ℕ) (out′ : List ℕ) (e : ℕ) (ee : e ≡ placeOf 10 input) where
+  pub no-line : e ≡ length input → Puts out 0 refusedLine n out′ → Prints (listing input) out n out′
+  unfolding listing
+  no-line f p = rw (← ee, eq-eqb e (length input) f) (refuses out n out′ p)
 
   module _ (f : e ≡ length input → ⊥) (line : List ℕ) (el : line ≡ take e input) (u : Units) (eu : u ≡ unitsOf line) where
-    pub bad-line : u ≡ NoUnits → Puts out 0 refusedLine n out′ → Prints (listed input page) out n out′ page
-    unfolding listed
-    bad-line i p = rw (← ee, ne-eqb e (length input) f, ← el, ← eu, i) (refuses page out n out′ p)
+    pub bad-line : u ≡ NoUnits → Puts out 0 refusedLine n out′ → Prints (listing input) out n out′
+    unfolding listing
+    bad-line i p = rw (← ee, ne-eqb e (length input) f, ← el, ← eu, i) (refuses out n out′ p)
 
-    pub lists : (a r : ℕ) (region page′ : List ℕ) → u ≡ Given a r → region ≡ drop (e + 1) input → Prints (listedRegion a r region page) out n out′ page′ → Prints (listed input page) out n out′ page′
-    unfolding listed
-    lists a r region page′ i er t = rw (← ee, ne-eqb e (length input) f, ← el, ← eu, i, ← er) t
+    pub lists : (a r : ℕ) (region : List ℕ) → u ≡ Given a r → region ≡ drop (e + 1) input → Prints (listedRegion a r region) out n out′ → Prints (listing input) out n out′
+    unfolding listing
+    lists a r region i er t = rw (← ee, ne-eqb e (length input) f, ← el, ← eu, i, ← er) t

@@ -1,4 +1,6 @@
 -- The laws of a listing.
 pub mod Reporting
+pub mod Covered
 pub mod Inputs
 pub mod Room
+pub mod Beginnings

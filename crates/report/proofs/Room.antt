@@ -6,7 +6,7 @@ use mathlib.Core.List.{List, [], _∷_, _++_}
 use Prim.Native.Nat.{ℕ, zero, suc, _+_, _-_, _*_, _^_, _≤_, _<_}
 use native.Mathlib.Omega.{arith}
 use lib.Dec.{eqb, ltb}
-use lib.ListN.{length, take, drop, length-append}
+use lib.ListN.{length, take, drop, length-append, length-drop}
 use borrow.Author.Tests.{ltb-false}
 use Rattle.core.specs.declared.«record».RecordRef.{RecordRef}
 use Rattle.core.specs.declared.«record».RecordRef.the-variants.{RunStarted, EffectScheduled, EffectCompleted, EffectFailed, TimerScheduled, TimerFired, RunCompleted, RunFailed, VersionMarker}
@@ -16,25 +16,20 @@ use Rattle.storage.specs.Settings.{allowed, settings}
 use Rattle.storage.proofs.Units.{limits}
 use Rattle.recovery.specs.declared.next.Ending.{Ending}
 use Rattle.recovery.specs.declared.next.Ending.the-variants.{Open, Clean, Damaged, Incomplete, Unsealed}
-use Rattle.recovery.specs.declared.next.Recovery.{Recovery}
 use Rattle.recovery.specs.declared.next.Found.{Found}
 use Rattle.recovery.specs.declared.next.Stepped.{Stepped}
 use Rattle.recovery.specs.declared.next.Outcome.{Outcome}
 use Rattle.recovery.specs.declared.next.Outcome.the-variants.{Met, Passed, Over}
-use Rattle.recovery.specs.Reads.{capacityOf}
 use Rattle.recovery.specs.Next.{fresh}
-use Rattle.recovery.proofs.Near.{Near}
-use Rattle.finish.specs.Finish.{founds, toEnd}
-use Rattle.finish.specs.Course.{along, courseBy, paged, walkPaged, found}
-use Rattle.finish.proofs.Steps.{near-at}
-use Rattle.finish.proofs.Walks.{run-is-walk}
-use Rattle.text.specs.Text.{decimal, placeOf}
+use Rattle.recovery.proofs.Near.{Near, near-stands}
+use Rattle.finish.specs.Course.{Course, along, courseBy, plainly, walk, found, lastOf}
+use Rattle.text.specs.Text.{codes, decimal, placeOf}
 use Rattle.text.proofs.Digits.{decimal-length, decimal-most}
 use Rattle.text.proofs.Puts.{puts-whole}
 use Rattle.report.specs.declared.input.Units.{Units}
 use Rattle.report.specs.declared.input.Units.the-variants.{Given, Bad as NoUnits}
-use Rattle.lines.specs.Lines.{field, recordLine, ended, refusalOf, totals, endLine}
-use Rattle.report.specs.Report.{Listing, recordLines, total, linesAfter, linesOf, reportOf, unitsOf, refusedWith, listedWith, listedRegion, listedBy, listed, Prints}
+use Rattle.lines.specs.Lines.{field, recordLine, refusalOf, totals, lastLine, endBy, endLine}
+use Rattle.report.specs.Report.{recordLines, recordBytes, linesOf, walkLines, listedWith, listedRegion, unitsOf, listedBy, listing, Prints}
 
 joined : (m n : ℕ) (xs ys : List ℕ) → length xs ≤ m → length ys ≤ n → length (xs ++ ys) ≤ m + n
 joined m n xs ys h k = omega (arith, length-append xs ys)
@@ -68,83 +63,75 @@ line-most x h =
     (joined 2 42 k (q ++ p) (field-few 1 (kindOf (x .«record» .«record»)) 44 (omega arith) (kind-most (x .«record» .«record»)))
     (joined 21 21 q p (field-most (seqOf (x .«record» .«record»)) 44) (field-most (x .«record» .payload .len) 10)))
 
-ended-most : (e : Ending) → length (ended e) ≤ 15
-ended-most Clean = omega arith
-ended-most Damaged = omega arith
-ended-most Unsealed = omega arith
-ended-most Incomplete = omega arith
-ended-most Open = omega arith
-
-end-most : (x : Stepped) (n b : ℕ) → length (endLine x n b) ≤ 99
-unfolding endLine totals
-end-most x n b =
-    let w : List ℕ = ended (x .state .ending) in
+last-most : (word : List ℕ) (x : Stepped) (n b : ℕ) → length word ≤ 15 → length (lastLine word x n b) ≤ 99
+unfolding lastLine totals
+last-most word x n b h =
     let o : List ℕ = field (x .state .offset) 44 in
     let e : List ℕ = field (refusalOf (x .answer)) 44 in
-    joined 15 84 w (o ++ (e ++ (field n 44 ++ field b 10))) (ended-most (x .state .ending))
+    joined 15 84 word (o ++ (e ++ (field n 44 ++ field b 10))) h
     (joined 21 63 o (e ++ (field n 44 ++ field b 10)) (field-most (x .state .offset) 44)
     (joined 21 42 e (field n 44 ++ field b 10) (field-most (refusalOf (x .answer)) 44)
     (joined 21 21 (field n 44) (field b 10) (field-most n 44) (field-most b 10))))
 
+end-most : (e : Ending) (x : Stepped) (n b : ℕ) → length (endBy e x n b) ≤ 99
+end-most Clean x n b = last-most (codes "end,clean,") x n b (omega arith)
+end-most Damaged x n b = last-most (codes "end,damaged,") x n b (omega arith)
+end-most Unsealed x n b = last-most (codes "end,unsealed,") x n b (omega arith)
+end-most Incomplete x n b = omega arith
+end-most Open x n b = omega arith
+
+-- what stands at an offset moves the walk on within the region
+near-plainly : (region : List ℕ) (a : ℕ) → 0 < a → (o : ℕ) → Near (length region - o) (plainly a region o)
+near-plainly region a h o = rw (length-drop o region) at (near-stands a (drop o region) h)
+
 -- the lines of a walk's records are at most three times as long as the bytes that it has before it
-module _ (region : List ℕ) (a r cap : ℕ) (h : 0 < a) (l : length region ≤ 32768) where
+module _ (region : List ℕ) (a : ℕ) (h : 0 < a) (l : length region ≤ 32768) where
   abbrev linesFrom : ℕ → ℕ → ℕ
-  linesFrom n o = length (recordLines (found (courseBy (paged a r cap region) n o .passed)))
+  linesFrom n o = length (recordLines (found (courseBy (plainly a region) n o .passed)))
 
   walk-room : (n o : ℕ) → linesFrom n o ≤ 3 * (length region - o)
   unfolding courseBy recordLines
   walk-room zero o = omega arith
-  walk-room (suc n) o =
-      go (paged a r cap region o) (near-at region a r cap h o) (walk-room n)
-    where
-      go : (z : Outcome) → Near (length region - o) z → ((p : ℕ) → linesFrom n p ≤ 3 * (length region - p))
-          → length (recordLines (found (along z o (courseBy (paged a r cap region) n) .passed))) ≤ 3 * (length region - o)
-      go (Met x) w ih =
-          let f : Found = record { offset = o; «record» = x } in
-          let rest : List ℕ = recordLines (found (courseBy (paged a r cap region) n (o + x .len) .passed)) in
-          let one : length (recordLine f) ≤ 50 = line-most f (omega (arith, w .most, w .least)) in
-          let more : length rest ≤ 3 * (length region - (o + x .len)) = ih (o + x .len) in
-          omega (arith, one, more, w .most, w .least, length-append (recordLine f) rest)
-      go (Passed u) w ih = omega (arith, ih (o + u))
-      go (Over x e) w ih = omega arith
+  walk-room (suc n) o = go (plainly a region o) (near-plainly region a h o) (walk-room n) where
+    go : (z : Outcome) → Near (length region - o) z → ((p : ℕ) → linesFrom n p ≤ 3 * (length region - p))
+        → length (recordLines (found (along z o (courseBy (plainly a region) n) .passed))) ≤ 3 * (length region - o)
+    go (Met x) w ih =
+        let f : Found = record { offset = o; «record» = x } in
+        let rest : List ℕ = recordLines (found (courseBy (plainly a region) n (o + x .len) .passed)) in
+        let one : length (recordLine f) ≤ 50 = line-most f (omega (arith, w .most, w .least)) in
+        let more : length rest ≤ 3 * (length region - (o + x .len)) = ih (o + x .len) in
+        omega (arith, one, more, w .most, w .least, length-append (recordLine f) rest)
+    go (Passed u) w ih = omega (arith, ih (o + u))
+    go (Over x e) w ih = omega arith
 
-abbrev Fitting : Listing → Type 0
-Fitting x = length (x .text) ≤ 102400
-
-refused-room : (page : List ℕ) → Fitting (refusedWith page)
-refused-room page = omega arith
+abbrev Fitting : List ℕ → Type 0
+Fitting x = length x ≤ 102400
 
 -- a region with its units
-module _ (a r : ℕ) (region page : List ℕ) where
-  abbrev begun : Recovery
-  begun = fresh (record { bytes = length region; «program_size» = a; «read_size» = r })
+module _ (a r : ℕ) (region : List ℕ) where
+  walk-fits : length region ≤ 32768 → allowed (length region) a r ≡ true → Fitting (walkLines (record { bytes = length region; «program_size» = a; «read_size» = r }) (walk a region 0))
+  unfolding linesOf walk
+  walk-fits h e =
+      let w : Course = courseBy (plainly a region) (suc (length region)) 0 in
+      let fs : List Found = found (w .passed) in
+      let last : Stepped = lastOf (fresh (record { bytes = length region; «program_size» = a; «read_size» = r })) w in
+      let i : length (recordLines fs) ≤ 3 * (length region - 0) = walk-room region a (limits (length region) a r e .program-least) h (suc (length region)) 0 in
+      omega (arith, i, end-most (w .ending) last (length fs) (recordBytes fs), length-append (recordLines fs) (endLine last (length fs) (recordBytes fs)))
 
-  report-room : length region ≤ 32768 → allowed (length region) a r ≡ true → Fitting (reportOf begun region page)
-  unfolding reportOf linesOf linesAfter walkPaged
-  report-room h e =
-      let cap : ℕ = capacityOf (length page) r in
-      let fs : List Found = founds begun region page in
-      let t : List ℕ = endLine (toEnd begun region page .out) (0 + length fs) (0 + total fs) in
-      let q : fs ≡ found (courseBy (paged a r cap region) (suc (length region)) 0 .passed) = run-is-walk begun region page refl e refl .finds in
-      let i : length (recordLines fs) ≤ 3 * (length region - 0) = rw q (walk-room region a r cap (limits (length region) a r e .program-least) h (suc (length region)) 0) in
-      omega (arith, i, end-most (toEnd begun region page .out) (0 + length fs) (0 + total fs), length-append (recordLines fs) t)
-
-  region-room : Fitting (listedRegion a r region page)
+  region-fits : Fitting (listedRegion a r region)
   unfolding listedRegion settings
-  region-room =
-      cond-case Fitting (ltb 32768 (length region)) (λ _. refused-room page)
-      (λ h. cond-case (λ c. Fitting (listedWith region page c)) (allowed (length region) a r) (report-room (ltb-false 32768 (length region) h)) (λ _. refused-room page))
+  region-fits =
+      cond-case Fitting (ltb 32768 (length region)) (λ _. omega arith)
+      (λ h. cond-case (λ c. Fitting (listedWith region c)) (allowed (length region) a r) (walk-fits (ltb-false 32768 (length region) h)) (λ _. omega arith))
 
--- the text of a listing is at most 102,400 bytes long
-pub room : (input page : List ℕ) → length (listed input page .text) ≤ 102400
-unfolding listed
-room input page =
-    cond-case Fitting (eqb (placeOf 10 input) (length input)) (λ _. refused-room page) (λ _. go (drop (placeOf 10 input + 1) input) (unitsOf (take (placeOf 10 input) input)))
-  where
-    go : (region : List ℕ) (u : Units) → Fitting (listedBy region page u)
-    go region NoUnits = refused-room page
-    go region (Given a r) = region-room a r region page
+-- a listing is at most 102,400 bytes long
+pub room : (input : List ℕ) → length (listing input) ≤ 102400
+unfolding listing
+room input = cond-case Fitting (eqb (placeOf 10 input) (length input)) (λ _. omega arith) (λ _. go (drop (placeOf 10 input + 1) input) (unitsOf (take (placeOf 10 input) input))) where
+  go : (region : List ℕ) (u : Units) → Fitting (listedBy region u)
+  go region NoUnits = omega arith
+  go region (Given a r) = region-fits a r region
 
--- an output of at least 102,400 bytes holds all of the text
-pub whole : (input page out : List ℕ) (n : ℕ) (out′ page′ : List ℕ) → Prints (listed input page) out n out′ page′ → 102400 ≤ length out → take n out′ ≡ listed input page .text
-whole input page out n out′ page′ p h = puts-whole (record { ends = p .ends; all = p .over }) (omega (arith, room input page))
+-- an output of at least 102,400 bytes holds all of it
+pub whole : (input out : List ℕ) (n : ℕ) (out′ : List ℕ) → Prints (listing input) out n out′ → 102400 ≤ length out → take n out′ ≡ listing input
+whole input out n out′ p h = puts-whole (record { ends = p .ends; all = p .over }) (omega (arith, room input))

@@ -1,2 +1,3 @@
--- The definition of a listing.
+-- The definitions of a listing.
 pub mod Report
+pub mod Inside

@@ -1,48 +1,51 @@
--- A listing: a line for each record that a recovery finds, then the last line; and the input that it is made from.
+-- A listing as document 01 states it: a line for each record that the walk over a region finds, then the last line; and
+-- the input that it is made from. No page and no output's length in it.
 use mathlib.Core.Path.{_≡_}
 use mathlib.Core.Bool.{cond}
 use mathlib.Core.List.{List, [], _∷_, _++_}
 use Prim.Native.Nat.{ℕ, _+_, _≤_}
 use lib.Dec.{eqb, ltb}
 use lib.ListN.{length, take, drop}
+use Rattle.storage.specs.declared.geometry.Geometry.{Geometry}
 use Rattle.storage.specs.declared.geometry.Checked.{Checked}
 use Rattle.storage.specs.declared.geometry.Checked.the-variants.{Allowed, Refused}
 use Rattle.storage.specs.Settings.{settings}
 use Rattle.text.specs.declared.Number.{Number}
 use Rattle.text.specs.declared.Number.the-variants.{Value, Bad}
 use Rattle.text.specs.Text.{laidAt, endAt, placeOf, numberOf}
-use Rattle.recovery.specs.declared.next.Recovery.{Recovery}
 use Rattle.recovery.specs.declared.next.Found.{Found}
-use Rattle.recovery.specs.Next.{Done, fresh}
-use Rattle.finish.specs.Finish.{founds, toEnd}
+use Rattle.recovery.specs.declared.next.Stepped.{Stepped}
+use Rattle.recovery.specs.Next.{fresh}
+use Rattle.finish.specs.Course.{Course, walk, found, lastOf}
+use Rattle.lines.specs.Lines.{recordLine, endLine, refusedLine}
 use Rattle.report.specs.declared.input.Units.{Units}
 use Rattle.report.specs.declared.input.Units.the-variants.{Given, Bad as NoUnits}
-use Rattle.lines.specs.Lines.{recordLine, endLine, refusedLine}
 
 unfoldable pub recordLines : List Found → List ℕ
 recordLines [] = []
 recordLines (x ∷ xs) = recordLine x ++ recordLines xs
 
 -- the sum of their record lengths
-unfoldable pub total : List Found → ℕ
-total [] = 0
-total (x ∷ xs) = x .«record» .len + total xs
+unfoldable pub recordBytes : List Found → ℕ
+recordBytes [] = 0
+recordBytes (x ∷ xs) = x .«record» .len + recordBytes xs
 
--- the lines of records xs and of the last step d, where n records of b bytes went before
-unfoldable pub linesAfter : ℕ → ℕ → List Found → Done → List ℕ
-linesAfter n b xs d = recordLines xs ++ endLine (d .out) (n + length xs) (b + total xs)
+-- the lines of the records found, then the line of the last step
+unfoldable pub linesOf : List Found → Stepped → List ℕ
+linesOf xs last = recordLines xs ++ endLine last (length xs) (recordBytes xs)
 
--- all lines of a recovery from s
-unfoldable pub linesOf : Recovery → List ℕ → List ℕ → List ℕ
-linesOf s region page = linesAfter 0 0 (founds s region page) (toEnd s region page)
+-- the lines of a walk from a region's start
+abbrev pub walkLines : Geometry → Course → List ℕ
+walkLines g w = linesOf (found (w .passed)) (lastOf (fresh g) w)
 
--- what is printed, and the page afterwards
-pub record Listing : Type 0 where
-  pub text : List ℕ
-  pub page : List ℕ
+-- with the settings checked
+abbrev pub listedWith : List ℕ → Checked → List ℕ
+listedWith region (Refused e) = refusedLine
+listedWith region (Allowed g) = walkLines g (walk (g .«program_size») region 0)
 
-unfoldable pub reportOf : Recovery → List ℕ → List ℕ → Listing
-reportOf s region page = record { text = linesOf s region page; page = toEnd s region page .page }
+-- a region of at most 32,768 bytes
+unfoldable pub listedRegion : ℕ → ℕ → List ℕ → List ℕ
+listedRegion a r region = cond (ltb 32768 (length region)) refusedLine (listedWith region (settings (length region) a r))
 
 -- two numbers are two units
 abbrev pub givenBy : Number → Number → Units
@@ -52,35 +55,34 @@ givenBy (Value a) (Value r) = Given a r
 
 -- a line `a,r`: a number before the first comma, and one behind it
 unfoldable pub unitsOf : List ℕ → Units
-unitsOf line = cond (eqb (placeOf 44 line) (length line)) NoUnits (givenBy (numberOf (take (placeOf 44 line) line)) (numberOf (drop (placeOf 44 line + 1) line)))
+unitsOf line =
+    cond (eqb (placeOf 44 line) (length line)) NoUnits
+    (givenBy (numberOf (take (placeOf 44 line) line)) (numberOf (drop (placeOf 44 line + 1) line)))
 
--- `refused,1` alone
-abbrev pub refusedWith : List ℕ → Listing
-refusedWith page = record { text = refusedLine; page = page }
+abbrev pub listedBy : List ℕ → Units → List ℕ
+listedBy region NoUnits = refusedLine
+listedBy region (Given a r) = listedRegion a r region
 
--- with the settings checked
-abbrev pub listedWith : List ℕ → List ℕ → Checked → Listing
-listedWith region page (Refused e) = refusedWith page
-listedWith region page (Allowed g) = reportOf (fresh g) region page
+-- the listing of an input: its first line, which a line feed ends, says the units; what is behind it is the region
+unfoldable pub listing : List ℕ → List ℕ
+listing input =
+    cond (eqb (placeOf 10 input) (length input)) refusedLine
+    (listedBy (drop (placeOf 10 input + 1) input) (unitsOf (take (placeOf 10 input) input)))
 
--- a region of at most 32,768 bytes
-unfoldable pub listedRegion : ℕ → ℕ → List ℕ → List ℕ → Listing
-listedRegion a r region page = cond (ltb 32768 (length region)) (refusedWith page) (listedWith region page (settings (length region) a r))
-
-abbrev pub listedBy : List ℕ → List ℕ → Units → Listing
-listedBy region page NoUnits = refusedWith page
-listedBy region page (Given a r) = listedRegion a r region page
-
--- the first line, which a line feed ends, says the units; what is behind it is the region
-unfoldable pub listed : List ℕ → List ℕ → Listing
-listed input page =
-    cond (eqb (placeOf 10 input) (length input)) (refusedWith page) (listedBy (drop (placeOf 10 input + 1) input) page (unitsOf (take (placeOf 10 input) input)))
-
--- the promise of a report and of a listing: the text laid over the start of an output, where it ends there, and the page
-pub record Prints (x : Listing) (out : List ℕ) (n : ℕ) (out′ page′ : List ℕ) : Type 0 where
-  pub ends : n ≡ endAt out 0 (x .text)
-  pub over : out′ ≡ laidAt out 0 (x .text)
-  pub pages : page′ ≡ x .page
+-- the promise of a listing: a text laid over the start of an output, and where it ends there; what does not fit is left out
+pub record Prints (text out : List ℕ) (n : ℕ) (out′ : List ℕ) : Type 0 where
+  pub ends : n ≡ endAt out 0 text
+  pub over : out′ ≡ laidAt out 0 text
   -- the end lies in the output, said in the two ways that a part `&out[..n]` asks for
   pub within : n ≤ length out′
   pub part : n ≡ length (take n out′)
+
+-- of a whole input the array holds the beginning: n bytes, all of it or as many as the array has
+pub record Began (whole array : List ℕ) (n : ℕ) : Type 0 where
+  pub start : take n array ≡ take (length array) whole
+
+-- the promise of the program's listing: whichever input began so, what is printed is the listing of it, to the last byte
+pub record Lists (array : List ℕ) (n : ℕ) (e : ℕ) (out′ : List ℕ) : Type 0 where
+  pub prints : (whole : List ℕ) → Began whole array n → take e out′ ≡ listing whole
+  pub within : e ≤ length out′
+  pub part : e ≡ length (take e out′)

@@ -2,7 +2,7 @@
 ghost use mathlib.Core.Path.{_≡_};
 ghost use Prim.Native.Nat.{_+_};
 ghost use lib.ListN.{take, drop};
-ghost use Rattle.report.specs.Report.{givenBy, unitsOf, listedRegion, listed, Prints};
+ghost use Rattle.report.specs.Report.{givenBy, unitsOf, listedRegion, listing, Prints, Lists};
 use crate::run::report;
 use lines::put_refused;
 use recovery::next::Recovery;
@@ -69,15 +69,10 @@ fn units_of(line: &[u8]) -> Units
     given(a, r)
 }
 
-// The listing of a region, or the refusal of its settings.
-fn list_region(
-    program_size: u64,
-    read_size: u64,
-    region: &[u8],
-    page: &mut [u8],
-    out: &mut [u8],
-) -> usize
-    ensures { λ n. ⌜ Prints (listedRegion «program_size» «read_size» (now (region .entry)) (now (page .entry))) (now (out .entry)) n (now (out .exit)) (now (page .exit)) ⌝ }
+// The listing of a region, or the refusal of its settings. The page is as long as the longest region, so that every read
+// fits in it.
+fn list_region(program_size: u64, read_size: u64, region: &[u8], out: &mut [u8]) -> usize
+    ensures { λ n. ⌜ Prints (listedRegion «program_size» «read_size» (now (region .entry))) (now (out .entry)) n (now (out .exit)) ⌝ }
 {
     if REGION_MOST < region.len() {
         return put_refused(out);
@@ -85,14 +80,16 @@ fn list_region(
     let checked = Geometry::new(region.len(), program_size as usize, read_size as usize);
     match checked {
         Checked::Refused(_) => return put_refused(out),
-        Checked::Allowed(geometry) => return report(Recovery::new(geometry), region, page, out),
+        Checked::Allowed(geometry) => {
+            let mut page = [0u8; 32768];
+            return report(Recovery::new(geometry), region, &mut page, out);
+        }
     }
 }
 
-// Lays the listing of what standard input holds over the start of the output and answers where it ends.
-// An output of 102,400 bytes has room for any; of another, what does not fit is left out.
-pub fn list(input: &[u8], page: &mut [u8], out: &mut [u8]) -> usize
-    ensures { λ n. ⌜ Prints (listed (now (input .entry)) (now (page .entry))) (now (out .entry)) n (now (out .exit)) (now (page .exit)) ⌝ }
+// Lays the listing of an input over the start of the output and answers where it ends. What does not fit is left out.
+pub fn list(input: &[u8], out: &mut [u8]) -> usize
+    ensures { λ n. ⌜ Prints (listing (now (input .entry))) (now (out .entry)) n (now (out .exit)) ⌝ }
 {
     let end = find_byte(input, LINE_FEED);
     if end == input.len() {
@@ -106,8 +103,15 @@ pub fn list(input: &[u8], page: &mut [u8], out: &mut [u8]) -> usize
             program_size,
             read_size,
             region,
-            page,
             out,
         ),
     }
+}
+
+// The listing of the input whose beginning stands in the array, n bytes of it: a first line of nine bytes and a region of
+// 32,768 leave room, so that what is longer is refused by its beginning; the output has room for every listing.
+pub fn list_input(input: &[u8; 32784], n: usize, out: &mut [u8; 102400]) -> usize
+    ensures { λ e. ⌜ Lists (now (input .entry)) n e (now (out .exit)) ⌝ }
+{
+    list(before(input, n), out)
 }

@@ -1,3 +1,3 @@
 // The listing: the bytes that it prints for what standard input holds.
 pub mod input;
-pub mod run;
+mod run;

@@ -4,3 +4,4 @@ pub mod Digits
 pub mod Places
 pub mod Numbers
 pub mod ReadBack
+pub mod Short

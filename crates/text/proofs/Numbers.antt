@@ -45,7 +45,7 @@ digit-fits v b x e = go (isDigit b) (leb w most) refl e where
   go false f t q = let z : _≡_ {A = ℕ} 0 1 = cc in absurd (omega arith)
 
 -- a number does not become less by digits behind it
-value-grows : (v : ℕ) (s : List ℕ) → v ≤ valueFrom v s
+pub value-grows : (v : ℕ) (s : List ℕ) → v ≤ valueFrom v s
 unfolding valueFrom
 value-grows v [] = omega arith
 value-grows v (b ∷ bs) = omega (arith, value-grows (v * 10 + (b - 48)) bs)

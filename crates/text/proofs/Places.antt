@@ -2,7 +2,7 @@
 -- Assumes nothing.
 use mathlib.Core.Path.{_≡_, sym, ap, _∙_}
 use mathlib.Core.Bool.{cond}
-use mathlib.Core.List.{List}
+use mathlib.Core.List.{List, [], _∷_}
 use Prim.Native.Nat.{ℕ, suc, _+_, _<_, _≤_}
 use native.Mathlib.Numerals.{add-one}
 use native.Mathlib.Nat.{zero-add}
@@ -11,7 +11,13 @@ use lib.Dec.{eqb}
 use lib.ListN.{length, getD, drop, drop-of-length-le}
 use lib.Seq.{drop-cons, length-take-le}
 use borrow.Author.Tests.{eq-eqb, ne-eqb}
+use Rattle.core.proofs.Choice.{cond-case}
 use Rattle.text.specs.Text.{placeOf, Place}
+
+pub place-within : (b : ℕ) (s : List ℕ) → placeOf b s ≤ length s
+unfolding placeOf
+place-within b [] = omega arith
+place-within b (x ∷ s) = cond-case (λ n. n ≤ suc (length s)) (eqb x b) (λ _. omega arith) (λ _. omega (arith, place-within b s))
 
 -- the loop: what is left of the search answers for all of it
 pub record Seeking (b : ℕ) (s : List ℕ) (i : ℕ) : Type 0 where

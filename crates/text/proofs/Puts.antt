@@ -93,6 +93,10 @@ laid-next (x ∷ xs) zero (suc n) (y ∷ s) t e = ap (λ q. y ∷ q) (laid-next 
 laid-next (x ∷ xs) (suc at) zero s t e = absurd (omega arith)
 laid-next (x ∷ xs) (suc at) (suc n) s t e = ap (λ q. x ∷ q) (laid-next xs at n s t (omega arith))
 
+-- nothing to put
+pub puts-none : (out : List ℕ) (at : ℕ) → Puts out at [] at out
+puts-none out at = record { ends = omega arith; all = laid-nothing out at }
+
 -- where a piece ends, and what the output keeps
 pub ends-within : (out : List ℕ) (at : ℕ) (s : List ℕ) → at ≤ length out → endAt out at s ≤ length out
 ends-within out at s h = omega arith

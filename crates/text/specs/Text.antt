@@ -4,11 +4,22 @@ use mathlib.Core.Path.{_≡_}
 use mathlib.Core.Bool.{Bool, true, cond, not, _&&_, _||_}
 use mathlib.Core.List.{List, [], _∷_, _++_}
 use Prim.Native.Nat.{ℕ, zero, suc, _+_, _-_, _*_, _/_, _%_, _≤_, min}
+use Prim.Native.Char.{code}
+use Prim.Native.String.{String, len, charAt}
 use lib.Dec.{eqb, leb, ltb}
 use lib.ListN.{length, getD, take, drop}
 use Rattle.storage.specs.Media.{laidOver}
 use Rattle.text.specs.declared.Number.{Number}
 use Rattle.text.specs.declared.Number.the-variants.{Value, Bad}
+
+-- the codes of n characters of a text, from the i-th on
+abbrev pub codesFrom : ℕ → ℕ → String → List ℕ
+codesFrom zero i s = []
+codesFrom (suc n) i s = code (charAt s i) ∷ codesFrom n (i + 1) s
+
+-- a text's bytes
+abbrev pub codes : String → List ℕ
+codes s = codesFrom (len s) 0 s
 
 -- the decimal digits of n with no zero in front, at most k of them
 unfoldable pub digitsOf : ℕ → ℕ → List ℕ

@@ -47,9 +47,6 @@ list-region-requires c κs = search needs
 same-length-3 : tie.Need-same-length-3
 same-length-3 c = search needs
 
-same-length-4 : tie.Need-same-length-4
-same-length-4 c = search needs
-
 returns-3 : tie.Need-returns-3
 returns-3 c = search (no-line, bad-line, lists, needs)
 
@@ -71,5 +68,4 @@ list-spec =
     enum-known-units
     list-region-requires
     same-length-3
-    same-length-4
     returns-3)

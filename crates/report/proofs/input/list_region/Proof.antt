@@ -35,14 +35,14 @@ enum-known-checked c = search needs
 new-requires-2 : tie.Need-new-requires-2
 new-requires-2 c κs = search needs
 
+slice-aggregate-report : tie.Need-slice-aggregate-report
+slice-aggregate-report c = search needs
+
 report-requires : tie.Need-report-requires
 report-requires c κs = search needs
 
 same-length-3 : tie.Need-same-length-3
 same-length-3 c = search needs
-
-same-length-4 : tie.Need-same-length-4
-same-length-4 c = search needs
 
 returns-3 : tie.Need-returns-3
 returns-3 c = search (too-long, not-allowed, lists-region, needs)
@@ -61,7 +61,7 @@ list-region-spec =
     returns-2
     enum-known-checked
     new-requires-2
+    slice-aggregate-report
     report-requires
     same-length-3
-    same-length-4
     returns-3)
