@@ -6,10 +6,9 @@ use text::put;
 
 // Prints a name and the listing of an input.
 fn show(name: &[u8], input: &[u8]) {
-    let mut page = [0u8; 32768];
     let mut out = [0u8; 64];
     io::write_all(STDOUT_FILENO, name);
-    let end = list(input, &mut page, &mut out);
+    let end = list(input, &mut out);
     io::write_all(STDOUT_FILENO, &out[..end]);
 }
 

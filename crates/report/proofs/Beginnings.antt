@@ -42,7 +42,7 @@ units-short line a r e ha hr =
     omega (arith, x, y, length-take c line, length-drop (c + 1) line, place-within 44 line))
     e
 
-module _ (input : List ℕ) (h : 32784 ≤ length input) where
+module _ (input : List ℕ) (h : 32779 ≤ length input) where
   -- so units that are allowed leave more than 32,768 bytes behind their line
   region-long : (a r : ℕ) → unitsOf (take (placeOf 10 input) input) ≡ Given a r → (region : List ℕ) → region ≡ drop (placeOf 10 input + 1) input → listedRegion a r region ≡ refusedLine
   unfolding listedRegion settings
@@ -56,7 +56,7 @@ module _ (input : List ℕ) (h : 32784 ≤ length input) where
       absurd (omega (arith, few, size, length-take (placeOf 10 input) input, place-within 10 input, ltb-false 32768 (length region) l)))
       (λ _. refl))
 
-  -- an input of at least 32,784 bytes is refused
+  -- an input of at least 32,779 bytes is refused
   pub long-refused : listing input ≡ refusedLine
   unfolding listing
   long-refused =
@@ -65,22 +65,21 @@ module _ (input : List ℕ) (h : 32784 ≤ length input) where
         go NoUnits e = refl
         go (Given a r) e = region-long a r e (drop (placeOf 10 input + 1) input) refl
 
--- the beginning that the program reads lists as the whole does
-pub beginning : (input : List ℕ) → listing (take 32784 input) ≡ listing input
-beginning input = go (ltb (length input) 32784) refl where
-  go : (b : Bool) → ltb (length input) 32784 ≡ b → listing (take 32784 input) ≡ listing input
-  go true l = ap listing (take-all 32784 input (omega (arith, ltb-true (length input) 32784 l)))
+-- a beginning of at least 32,779 bytes lists as the whole does
+pub beginning : (m : ℕ) → 32779 ≤ m → (input : List ℕ) → listing (take m input) ≡ listing input
+beginning m h input = go (ltb (length input) m) refl where
+  go : (b : Bool) → ltb (length input) m ≡ b → listing (take m input) ≡ listing input
+  go true l = ap listing (take-all m input (omega (arith, ltb-true (length input) m l)))
   go false l =
-      let n = ltb-false (length input) 32784 l in
-      long-refused (take 32784 input) (omega (arith, length-take 32784 input)) ∙ sym (long-refused input n)
+      let n = ltb-false (length input) m l in
+      long-refused (take m input) (omega (arith, length-take m input)) ∙ sym (long-refused input (omega (arith, n)))
 
--- s is the part of the array that was read
-pub lists-whole : (array : List ℕ) (n : ℕ) (s out : List ℕ) (e : ℕ) (out′ : List ℕ) → length array ≡ 32784 → length out ≡ 102400 → s ≡ take n array → Prints (listing s) out e out′
-    → Lists array n e out′
-lists-whole array n s out e out′ l k es p =
+-- s is the part of the array that was read; m and k are the arrays' lengths
+pub lists-whole : (array : List ℕ) (n : ℕ) (s out : List ℕ) (e : ℕ) (out′ : List ℕ) → s ≡ take n array → Prints (listing s) out e out′
+    → (m k : ℕ) → length array ≡ m → length out ≡ k → 32779 ≤ m → 102400 ≤ k → Lists array n e out′
+lists-whole array n s out e out′ es p m k l i hm hk =
     record {
-      prints = λ input b.
-          whole s out e out′ p (omega (arith, k)) ∙ ap listing (es ∙ b .start ∙ ap (λ m. take m input) l) ∙ beginning input;
+      prints = λ input b. whole s out e out′ p (omega (arith, i)) ∙ ap listing (es ∙ b .start) ∙ beginning (length array) (omega (arith, l)) input;
       within = p .within;
       part = p .part;
     }

@@ -1,4 +1,4 @@
--- A page of 32,768 bytes holds every read of a region that is listed, so the lines are those of the walk with no page.
+-- A page of at least 32,768 bytes holds every read of a region that is listed, so the lines are those of the walk with no page.
 -- Assumes nothing.
 use mathlib.Core.Path.{_≡_, refl, sym, ap₂}
 use mathlib.Core.Bool.{true, _&&_, and-eq-true-iff}
@@ -24,7 +24,7 @@ abbrev pub pagedWith : List ℕ → List ℕ → Checked → List ℕ
 pagedWith region page (Refused e) = refusedLine
 pagedWith region page (Allowed g) = pagedLines (fresh g) region page
 
-module _ (a r : ℕ) (region page : List ℕ) (h : length region ≤ 32768) (l : 32768 ≡ length page) where
+module _ (a r : ℕ) (region page : List ℕ) (h : length region ≤ 32768) (l : 32768 ≤ length page) where
   abbrev units : Geometry
   units = record { bytes = length region; «program_size» = a; «read_size» = r }
 

@@ -68,11 +68,11 @@ module _ (a r : ℕ) (region out : List ℕ) (n : ℕ) (out′ : List ℕ) where
     unfolding listedRegion
     not-allowed e f p = rw (le-ltb 32768 (length region) h, ← ek, f) (refuses out n out′ p)
 
-    -- through a page of 32,768 bytes, whatever it held, the lines are those of the walk with no page
-    pub lists-region : (g : Geometry) (s : Recovery) (page page′ : List ℕ) → k ≡ Allowed g → s ≡ fresh g → 32768 ≡ length page → Reports s region page out n out′ page′
+    -- through a page of at least 32,768 bytes, whatever it held, the lines are those of the walk with no page
+    pub lists-region : (g : Geometry) (s : Recovery) (page page′ : List ℕ) → k ≡ Allowed g → s ≡ fresh g → Reports s region page out n out′ page′ → 32768 ≤ length page
         → Prints (listedRegion a r region) out n out′
     unfolding listedRegion
-    lists-region g s page page′ f i l t = rw (le-ltb 32768 (length region) h, page-unseen a r region page h l, ← ek, f, ← i) (t .lines)
+    lists-region g s page page′ f i t l = rw (le-ltb 32768 (length region) h, page-unseen a r region page h l, ← ek, f, ← i) (t .lines)
 
 -- e is the first line feed's place
 module _ (input out : List ℕ) (n : ℕ) (out′ : List ℕ) (e : ℕ) (ee : e ≡ placeOf 10 input) where

@@ -4,3 +4,4 @@ pub mod Covered
 pub mod Inputs
 pub mod Room
 pub mod Beginnings
+pub mod Endings
