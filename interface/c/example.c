@@ -98,8 +98,6 @@ static int read_image(const char *path, struct image *image)
 static const char *ending_name(uint8_t ending)
 {
     switch (ending) {
-    case JARDOLENTO_OPEN:
-        return "open";
     case JARDOLENTO_CLEAN:
         return "clean";
     case JARDOLENTO_DAMAGED:
@@ -112,7 +110,8 @@ static const char *ending_name(uint8_t ending)
 }
 
 /* Prints a line for each record: offset, kind, sequence and payload length. Then how reading ended: where, with which
- * refusal, and how many records of how many bytes were found. Answers the highest sequence. */
+ * refusal, and how many records of how many bytes were found; or that the settings are refused. Answers the highest
+ * sequence. */
 static uint32_t list(const struct image *image, uint8_t *page)
 {
     struct jardolento_geometry geometry;
@@ -135,6 +134,11 @@ static uint32_t list(const struct image *image, uint8_t *page)
             highest = step.found.record.seq;
         records += 1;
         bytes += step.found.len;
+    }
+    if (step.state.ending == JARDOLENTO_OPEN) {
+        /* The settings were refused, so nothing was read. */
+        printf("refused,%u\n", (unsigned)step.refused.number);
+        return highest;
     }
     printf("end,%s,%" PRIu32 ",%u,%zu,%zu\n", ending_name(step.state.ending), step.state.offset,
            (unsigned)step.refused.number, records, bytes);

@@ -73,7 +73,8 @@ fn read_unit(bytes: &[u8], end: u8) -> Result<(usize, &[u8]), &'static str> {
 }
 
 /// Prints a line for each record: offset, kind, sequence and payload length. Then how reading ended: where, with which
-/// refusal, and how many records of how many bytes were found. Answers the highest sequence.
+/// refusal, and how many records of how many bytes were found; or that the settings are refused. Answers the highest
+/// sequence.
 fn list(image: &Image, page: &mut [u8]) -> u32 {
     let mut recovery = Recovery::new(Geometry {
         bytes: image.region.len() as u32,
@@ -97,7 +98,11 @@ fn list(image: &Image, page: &mut [u8]) -> u32 {
         }
     }
     let ending = match recovery.ending() {
-        None => "open",
+        // The settings were refused, so nothing was read.
+        None => {
+            println!("refused,{refusal}");
+            return highest;
+        }
         Some(Ending::Clean { .. }) => "clean",
         Some(Ending::Damaged { .. }) => "damaged",
         Some(Ending::Incomplete { .. }) => "incomplete",
