@@ -1,4 +1,4 @@
--- What the private calls of a listing promise: the lines of a recovery through a page, which the listing has no part of.
+-- What a private call of the listing promises: the lines of a recovery through a page, of which the listing has none.
 use mathlib.Core.Path.{_≡_}
 use mathlib.Core.List.{List}
 use Prim.Native.Nat.{ℕ}

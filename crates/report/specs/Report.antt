@@ -45,7 +45,9 @@ listedWith region (Allowed g) = walkLines g (walk (g .«program_size») region 0
 
 -- a region of at most 32,768 bytes
 unfoldable pub listedRegion : ℕ → ℕ → List ℕ → List ℕ
-listedRegion a r region = cond (ltb 32768 (length region)) refusedLine (listedWith region (settings (length region) a r))
+listedRegion a r region =
+    cond (ltb 32768 (length region)) refusedLine
+    (listedWith region (settings (length region) a r))
 
 -- two numbers are two units
 abbrev pub givenBy : Number → Number → Units
@@ -69,7 +71,7 @@ listing input =
     cond (eqb (placeOf 10 input) (length input)) refusedLine
     (listedBy (drop (placeOf 10 input + 1) input) (unitsOf (take (placeOf 10 input) input)))
 
--- the promise of a listing: a text laid over the start of an output, and where it ends there; what does not fit is left out
+-- the promise of a listing: a text laid over the start of an output, what does not fit left out, and where it ends there
 pub record Prints (text out : List ℕ) (n : ℕ) (out′ : List ℕ) : Type 0 where
   pub ends : n ≡ endAt out 0 text
   pub over : out′ ≡ laidAt out 0 text
@@ -81,7 +83,7 @@ pub record Prints (text out : List ℕ) (n : ℕ) (out′ : List ℕ) : Type 0 w
 pub record Began (whole array : List ℕ) (n : ℕ) : Type 0 where
   pub start : take n array ≡ take (length array) whole
 
--- the promise of the program's listing: whichever input began so, what is printed is the listing of it, to the last byte
+-- the promise of the program's listing: whichever input began so, what is printed is its listing, to the last byte
 pub record Lists (array : List ℕ) (n : ℕ) (e : ℕ) (out′ : List ℕ) : Type 0 where
   pub prints : (whole : List ℕ) → Began whole array n → take e out′ ≡ listing whole
   pub within : e ≤ length out′

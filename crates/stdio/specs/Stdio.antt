@@ -1,4 +1,4 @@
--- What reading an input promises: where it went well, the bytes that came lie in the buffer. Of which bytes came, and of
+-- What reading an input promises: where it went well, the bytes that came lie in the buffer. Of which bytes came, and
 -- whether a read failed, the C library's contract says nothing that a promise could state.
 use mathlib.Core.List.{List}
 use Prim.Native.Nat.{ℕ, _-_, _≤_}
