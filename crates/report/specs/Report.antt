@@ -71,7 +71,7 @@ listing input =
     cond (eqb (placeOf 10 input) (length input)) refusedLine
     (listedBy (drop (placeOf 10 input + 1) input) (unitsOf (take (placeOf 10 input) input)))
 
--- the promise of a listing: a text laid over the start of an output, what does not fit left out, and where it ends there
+-- the promise of a listing: a text laid over the start of an output, what does not fit left out, and where it ends
 pub record Prints (text out : List ℕ) (n : ℕ) (out′ : List ℕ) : Type 0 where
   pub ends : n ≡ endAt out 0 text
   pub over : out′ ≡ laidAt out 0 text
