@@ -8,7 +8,9 @@ use Rattle.core.proofs.Choice.{cond-case}
 use Rattle.storage.specs.Settings.{allowed}
 use Rattle.journal.specs.declared.Journal.{Journal}
 use Rattle.journal.specs.Opening.{opened}
+use Rattle.journal.proofs.Openings.{opens-by}
 use Rattle.append.specs.Append.{Left, isNext, staged, barred, committed}
+use Rattle.append.proofs.Onward.{stages-by, confirms-by, commits-by}
 use Rattle.claim.specs.Events.{Call, opening, stage, barrier, commit, Event, call, cut, cutIn, Held, holds, Machine, Outcome, afterOpening, stepped, stepBy, done, State, sealedIn, called, cutOff, step, run, verdicts, Stands, Valid}
 use Rattle.claim.specs.Promised.{Made, opens, stages, confirms, commits, Result, Plays, rests, calls, cuts, cutsIn}
 use Rattle.claim.specs.Claim.{Exactly}
@@ -64,23 +66,23 @@ module _ (n a r : ℕ) (ok : allowed n a r ≡ true) where
   makes : (s : State) (c : Call) → Inv n a r ok s → Stands (s .book) c → Made a r (s .machine) c (done a r (s .machine) c)
   makes s (opening page) i h =
       let l = opened a r (s .machine .region) page in
-      opens page (l .opening) (l .page) (record { all = refl })
+      opens page (l .opening) (l .page) (opens-by refl)
   makes s (stage x page) i h =
       let p : Present (s .machine .held) = present s i (h .0) in
       let f : Journal → Left = λ j. staged j (x .«record») (x .free) (s .machine .region) page in
       subst (λ q. Made a r (s .machine) (stage x page) (stepBy (s .machine) q f)) (sym (p .is))
-      (stages (p .one) x page (f (p .one) .out) (f (p .one) .region) (f (p .one) .page) (p .is) (record { all = refl }))
+      (stages (p .one) x page (f (p .one) .out) (f (p .one) .region) (f (p .one) .page) (p .is) (stages-by refl))
   makes s barrier i h =
       let p : Present (s .machine .held) = present s i h in
       let f : Journal → Left = λ j. barred j (s .machine .region) in
       let k : record { out = f (p .one) .out; region = s .machine .region; page = [] } ≡ f (p .one) = barred-keeps (p .one) (s .machine .region) in
       subst (λ q. Made a r (s .machine) barrier (stepBy (s .machine) q f)) (sym (p .is))
-      (subst (λ q. Made a r (s .machine) barrier (stepped (s .machine) q)) k (confirms (p .one) (f (p .one) .out) (p .is) (record { all = k })))
+      (subst (λ q. Made a r (s .machine) barrier (stepped (s .machine) q)) k (confirms (p .one) (f (p .one) .out) (p .is) (confirms-by k)))
   makes s commit i h =
       let p : Present (s .machine .held) = present s i h in
       let f : Journal → Left = λ j. committed j (s .machine .region) in
       subst (λ q. Made a r (s .machine) commit (stepBy (s .machine) q f)) (sym (p .is))
-      (commits (p .one) (f (p .one) .out) (f (p .one) .region) (p .is) (record { all = committed-pageless (p .one) (s .machine .region) }))
+      (commits (p .one) (f (p .one) .out) (f (p .one) .region) (p .is) (commits-by (committed-pageless (p .one) (s .machine .region))))
 
   -- so a list that demand 3 speaks of can be played
   plays : (s : State) (es : List Event) → Inv n a r ok s → Valid a r s es → Plays a r s es (defined a r s es)

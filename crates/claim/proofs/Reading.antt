@@ -26,6 +26,7 @@ use Rattle.recovery.specs.declared.next.Outcome.{Outcome}
 use Rattle.recovery.specs.declared.next.Outcome.the-variants.{Met, Passed, Over}
 use Rattle.recovery.specs.Reads.{capacityOf, made, wanted, seenBy}
 use Rattle.recovery.specs.Next.{outcomeOf, Walk, onward, walkFrom, reach, Done, stepped, finished, ran, isOpen, opened, step, NextStep, fresh}
+use Rattle.recovery.proofs.Runs.{next-step}
 use Rattle.recovery.proofs.Pages.{page-never-matters, capacity-large}
 use Rattle.recovery.proofs.Near.{laid-long}
 use Rattle.finish.specs.Finish.{passes, foundsTo, founds}
@@ -166,7 +167,7 @@ module _ (region : List ℕ) (b : AllBytes region) (g : Geometry) (ok : allowed 
       rw (← ap (λ z. z .state) same-out)
       (reads-found n (x .out .state) (later pages) (y .page) (step-keeps s region (pages 0) .settings ∙ e) (λ j. hs _)
       (omega (arith, step-keeps s region page .long, h))
-      (omega (arith, found-less region (pages 0) s (x .out) (x .page) (record { all = refl }) f i))))
+      (omega (arith, found-less region (pages 0) s (x .out) (x .page) (next-step refl) f i))))
     where
       go : (z : Answer) → step s region (pages 0) .out .answer ≡ z
           → ((f : Record) → step s region (pages 0) .out .answer ≡ Found f
@@ -174,9 +175,9 @@ module _ (region : List ℕ) (b : AllBytes region) (g : Geometry) (ok : allowed 
           → Reads region s pages (allSaidIn region (passes z (step s region page) (foundsTo n region)))
       go (Found f) i rest =
           let x : Done = step s region (pages 0) in
-          finds s pages (x .out) (x .page) f _ _ (record { all = refl }) i (sym (payload-paged s region (pages 0) (x .out) (x .page) (record { all = refl }) f i)) (rest f i)
-      go Ended i rest = ends s pages (step s region (pages 0) .out) (step s region (pages 0) .page) (record { all = refl }) i
-      go (Refused u) i rest = stops s pages (step s region (pages 0) .out) (step s region (pages 0) .page) u (record { all = refl }) i
+          finds s pages (x .out) (x .page) f _ _ (next-step refl) i (sym (payload-paged s region (pages 0) (x .out) (x .page) (next-step refl) f i)) (rest f i)
+      go Ended i rest = ends s pages (step s region (pages 0) .out) (step s region (pages 0) .page) (next-step refl) i
+      go (Refused u) i rest = stops s pages (step s region (pages 0) .out) (step s region (pages 0) .page) u (next-step refl) i
 
   -- with large pages, whatever they hold, a caller from offset 0 reads exactly what a run with one page finds
   pub reads-exactly : (pages : ℕ → List ℕ) → ((i : ℕ) → Large (pages i)) → (page : List ℕ) → Large page
