@@ -56,7 +56,7 @@ use Rattle.answers.specs.declared.stepped.ScanState.{ScanState}
 use Rattle.answers.specs.declared.opened.AdvancedJournal.{AdvancedJournal}
 use Rattle.answers.specs.Refusing.{none, refusedBy, lengthBy, frameLengthBy}
 use Rattle.answers.specs.Reading.{noPart, withRun, withInput, withClock, withGate, readOver, readAs, frameAs, unknownAs, frameBy, noFrameFor, decodedBy}
-use Rattle.answers.specs.Stepping.{foundAs, nothing, endingNumber, endingOf, recoveryOf, stateOf, stepTo, bit, scanStateOf, scanStepTo, findingBy}
+use Rattle.answers.specs.Stepping.{foundAs, nothing, endingNumber, endingOf, recoveryOf, stateOf, stateAfter, stepTo, bit, scanStateOf, scanStateAfter, scanStepTo, findingBy}
 use Rattle.answers.specs.Appending.{noJournal, openedBy, advancedTo, progressBy}
 
 -- a refusal's three numbers
@@ -165,6 +165,21 @@ scan-stopped s f = rw f
 
 pub scan-goes : (s : Scan) → s .stopped ≡ false → record { align = s .align; offset = s .offset; stopped = 0 } ≡ scanStateOf s
 scan-goes s f = rw f
+
+-- the state behind a step from s
+module _ (s : RecoveryState) (t : Recovery) where
+  pub state-stays : (s .ending ≡ 0 → ⊥) → s ≡ stateAfter s t
+  state-stays f = rw (ne-eqb (s .ending) 0 f)
+
+  pub state-moves : (y : RecoveryState) → s .ending ≡ 0 → y ≡ stateOf t → y ≡ stateAfter s t
+  state-moves y f g = g ∙ rw (eq-eqb (s .ending) 0 f)
+
+module _ (s : ScanState) (t : Scan) where
+  pub scan-stays : (s .stopped ≡ 0 → ⊥) → s ≡ scanStateAfter s t
+  scan-stays f = rw (ne-eqb (s .stopped) 0 f)
+
+  pub scan-moves : (y : ScanState) → s .stopped ≡ 0 → y ≡ scanStateOf t → y ≡ scanStateAfter s t
+  scan-moves y f g = g ∙ rw (eq-eqb (s .stopped) 0 f)
 
 -- a found record; y is the record as given
 pub found-as : (o : ℕ) (x : Sealed) (y : ReadRecord) → y ≡ readAs (x .«record»)

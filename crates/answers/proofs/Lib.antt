@@ -1,2 +1,3 @@
 -- The laws of the answers as numbers.
 pub mod Exits
+pub mod Numbers

@@ -1,6 +1,6 @@
 // Recovery, scan and find as numbers: their states in both directions, and their answers.
 ghost use mathlib.Core.Path.{_≡_};
-ghost use Rattle.answers.specs.Stepping.{foundAs, endingNumber, endingOf, recoveryOf, stateOf, stepBy, scanOf, scanStateOf, scanStepBy, findingBy};
+ghost use Rattle.answers.specs.Stepping.{foundAs, endingNumber, endingOf, recoveryOf, stateOf, stateAfter, stepBy, scanOf, scanStateOf, scanStateAfter, scanStepBy, findingBy};
 use crate::decoded::NO_PART;
 use crate::decoded::NO_RECORD;
 use crate::decoded::read_as;
@@ -152,11 +152,21 @@ pub fn state_of(s: Recovery) -> RecoveryState
     }
 }
 
-pub fn step_by(x: Stepped) -> RecoveryStep
-    ensures { λ r. ⌜ r ≡ stepBy x ⌝ }
+// The state behind a step; one that has ended comes back as it was.
+fn state_after(before: RecoveryState, after: Recovery) -> RecoveryState
+    ensures { λ r. ⌜ r ≡ stateAfter before after ⌝ }
+{
+    if before.ending != 0 {
+        return before;
+    }
+    state_of(after)
+}
+
+pub fn step_by(before: RecoveryState, x: Stepped) -> RecoveryStep
+    ensures { λ r. ⌜ r ≡ stepBy before x ⌝ }
 {
     let after = x.state;
-    let state = state_of(after);
+    let state = state_after(before, after);
     let answer = x.answer;
     match answer {
         Answer::Found(y) => {
@@ -214,11 +224,21 @@ pub fn scan_state_of(s: Scan) -> ScanState
     }
 }
 
-pub fn scan_step_by(x: scan::Stepped) -> ScanStep
-    ensures { λ r. ⌜ r ≡ scanStepBy x ⌝ }
+// The state behind a step; one that has stopped comes back as it was.
+fn scan_state_after(before: ScanState, after: Scan) -> ScanState
+    ensures { λ r. ⌜ r ≡ scanStateAfter before after ⌝ }
+{
+    if before.stopped != 0 {
+        return before;
+    }
+    scan_state_of(after)
+}
+
+pub fn scan_step_by(before: ScanState, x: scan::Stepped) -> ScanStep
+    ensures { λ r. ⌜ r ≡ scanStepBy before x ⌝ }
 {
     let after = x.state;
-    let state = scan_state_of(after);
+    let state = scan_state_after(before, after);
     let answer = x.answer;
     match answer {
         Scanned::Found(sealed, offset) => {

@@ -5,8 +5,8 @@ use borrow.Author.Needs.{needs}
 use Rattle.answers.proofs.stepped.scan_step_by.Statement.{statement}
 use Rattle.answers.proofs.stepped.scan_step_by.Tie as tie
 
-scan-state-of-requires : tie.Need-scan-state-of-requires
-scan-state-of-requires c κs = search needs
+scan-state-after-requires : tie.Need-scan-state-after-requires
+scan-state-after-requires c κs = search needs
 
 enum-known-answer : tie.Need-enum-known-answer
 enum-known-answer c = search needs
@@ -36,7 +36,7 @@ pub scan-step-by-spec : {M : Type 1} → statement M
 scan-step-by-spec =
     tie.close
     (tie.spec
-    scan-state-of-requires
+    scan-state-after-requires
     enum-known-answer
     found-as-requires
     returns

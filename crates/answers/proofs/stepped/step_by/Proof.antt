@@ -5,8 +5,8 @@ use borrow.Author.Needs.{needs}
 use Rattle.answers.proofs.stepped.step_by.Statement.{statement}
 use Rattle.answers.proofs.stepped.step_by.Tie as tie
 
-state-of-requires : tie.Need-state-of-requires
-state-of-requires c κs = search needs
+state-after-requires : tie.Need-state-after-requires
+state-after-requires c κs = search needs
 
 enum-known-answer : tie.Need-enum-known-answer
 enum-known-answer c = search needs
@@ -39,7 +39,7 @@ pub step-by-spec : {M : Type 1} → statement M
 step-by-spec =
     tie.close
     (tie.spec
-    state-of-requires
+    state-after-requires
     enum-known-answer
     cast-found-as
     found-as-requires

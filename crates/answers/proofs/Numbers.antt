@@ -1,0 +1,77 @@
+-- The refusal in each answer for C is the one that the answer's own definition numbers.
+-- Assumes nothing.
+use mathlib.Core.Path.{_≡_, refl}
+use Rattle.frame.specs.declared.lengths.Size.{Size}
+use Rattle.frame.specs.declared.lengths.Size.the-variants.{Bytes, Refused as NoLength}
+use Rattle.frame.specs.Lengths.{sizeRefusal}
+use Rattle.payload.specs.declared.Decoded.{Decoded}
+use Rattle.payload.specs.declared.Decoded.the-variants.{Record, UnknownKind}
+use Rattle.decode.specs.declared.Frame.{Frame}
+use Rattle.decode.specs.declared.FrameLen.{FrameLen}
+use Rattle.decode.specs.declared.FrameLen.the-variants.{Bytes as FrameBytes, Refused as NoFrameLen}
+use Rattle.decode.specs.declared.Decoding.{Decoding}
+use Rattle.decode.specs.declared.Decoding.the-variants.{Frame as IsFrame, Refused as NoFrame}
+use Rattle.decode.specs.Decode.{frameLenRefusal, decodingRefusal}
+use Rattle.recovery.specs.declared.next.Answer.{Answer}
+use Rattle.recovery.specs.declared.next.Answer.the-variants.{Found, Ended, Refused as NoRecord}
+use Rattle.recovery.specs.Next.{answerRefusal}
+use Rattle.scan.specs.declared.Scanned.{Scanned}
+use Rattle.scan.specs.declared.Scanned.the-variants.{Found as ScanFound, Ended as ScanEnded, Refused as ScanRefused}
+use Rattle.scan.specs.Scan.{scannedRefusal}
+use Rattle.find.specs.declared.Finding.{Finding}
+use Rattle.find.specs.declared.Finding.the-variants.{At, Nowhere, Refused as NotSearched}
+use Rattle.find.specs.Find.{findingRefusal}
+use Rattle.journal.specs.declared.Journal.{Journal}
+use Rattle.journal.specs.declared.Opening.{Opening}
+use Rattle.journal.specs.declared.Opening.the-variants.{Opened, Refused as NotOpened}
+use Rattle.journal.specs.Opening.{openingRefusal}
+use Rattle.append.specs.declared.step.Progress.{Progress}
+use Rattle.append.specs.declared.step.Progress.the-variants.{Staged, Confirmed, Committed, Refused as NoStep}
+use Rattle.append.specs.Append.{progressRefusal}
+use Rattle.answers.specs.declared.stepped.RecoveryState.{RecoveryState}
+use Rattle.answers.specs.declared.stepped.ScanState.{ScanState}
+use Rattle.answers.specs.Refusing.{none, refusedAs, lengthBy, frameLengthBy}
+use Rattle.answers.specs.Reading.{frameBy, decodedBy}
+use Rattle.answers.specs.Stepping.{stepTo, scanStepTo, findingBy}
+use Rattle.answers.specs.Appending.{openedBy, progressBy}
+
+pub length-numbers : (z : Size) → lengthBy z .refused ≡ refusedAs (sizeRefusal z)
+length-numbers (Bytes n) = refl
+length-numbers (NoLength e) = refl
+
+pub frame-length-numbers : (z : FrameLen) → frameLengthBy z .refused ≡ refusedAs (frameLenRefusal z)
+frame-length-numbers (FrameBytes n) = refl
+frame-length-numbers (NoFrameLen e) = refl
+
+frame-numbers : (f : Frame) (d : Decoded) → frameBy f d .refused ≡ none
+frame-numbers f (Record x) = refl
+frame-numbers f (UnknownKind k) = refl
+
+pub decoded-numbers : (z : Decoding) → decodedBy z .refused ≡ refusedAs (decodingRefusal z)
+decoded-numbers (IsFrame f) = frame-numbers f (f .decoded)
+decoded-numbers (NoFrame e) = refl
+
+pub step-numbers : (s : RecoveryState) (z : Answer) → stepTo s z .refused ≡ refusedAs (answerRefusal z)
+step-numbers s (Found x) = refl
+step-numbers s Ended = refl
+step-numbers s (NoRecord e) = refl
+
+pub scan-numbers : (s : ScanState) (z : Scanned) → scanStepTo s z .refused ≡ refusedAs (scannedRefusal z)
+scan-numbers s (ScanFound x o) = refl
+scan-numbers s ScanEnded = refl
+scan-numbers s (ScanRefused e) = refl
+
+pub finding-numbers : (z : Finding) → findingBy z .refused ≡ refusedAs (findingRefusal z)
+finding-numbers (At o) = refl
+finding-numbers Nowhere = refl
+finding-numbers (NotSearched e) = refl
+
+pub opening-numbers : (z : Opening) → openedBy z .refused ≡ refusedAs (openingRefusal z)
+opening-numbers (Opened j) = refl
+opening-numbers (NotOpened e) = refl
+
+pub progress-numbers : (j : Journal) (z : Progress) → progressBy j z .refused ≡ refusedAs (progressRefusal z)
+progress-numbers j Staged = refl
+progress-numbers j Confirmed = refl
+progress-numbers j (Committed w) = refl
+progress-numbers j (NoStep e) = refl
