@@ -1,1 +1,1 @@
-// No code: document 01's starred cases, proved together in proofs/Starred.antt.
+// No code: document 01's starred cases in proofs/Starred.antt, its refusals' numbers in proofs/Numbers.antt.
