@@ -2,14 +2,12 @@
 use mathlib.Core.List.{List, [], _∷_, _++_}
 use Prim.Native.Nat.{ℕ}
 use Rattle.core.specs.Kinds.{kindOf, seqOf}
-use Rattle.core.specs.Refusals.{numbered}
 use Rattle.text.specs.Text.{codes, decimal}
 use Rattle.recovery.specs.declared.next.Ending.{Ending}
 use Rattle.recovery.specs.declared.next.Ending.the-variants.{Open, Clean, Damaged, Incomplete, Unsealed}
 use Rattle.recovery.specs.declared.next.Found.{Found as Record}
-use Rattle.recovery.specs.declared.next.Answer.{Answer}
-use Rattle.recovery.specs.declared.next.Answer.the-variants.{Found, Ended, Refused}
 use Rattle.recovery.specs.declared.next.Stepped.{Stepped}
+use Rattle.recovery.specs.Next.{answerRefusal}
 
 -- a number and the byte behind it
 abbrev pub field : ℕ → ℕ → List ℕ
@@ -23,19 +21,17 @@ recordLine x =
     ++ (field (seqOf (x .«record» .«record»)) 44
     ++ field (x .«record» .payload .len) 10))
 
--- document 01's number of the refusal, 0 where there is none
-abbrev pub refusalOf : Answer → ℕ
-refusalOf (Refused e) = numbered e .number
-refusalOf Ended = 0
-refusalOf (Found x) = 0
-
 -- the records found, and the bytes that they take
 unfoldable pub totals : ℕ → ℕ → List ℕ
 totals n b = field n 44 ++ field b 10
 
 -- a last line that begins with a word: where the recovery ended, its refusal, the totals
 unfoldable pub lastLine : List ℕ → Stepped → ℕ → ℕ → List ℕ
-lastLine word x n b = word ++ (field (x .state .offset) 44 ++ (field (refusalOf (x .answer)) 44 ++ totals n b))
+lastLine word x n b =
+    word
+    ++ (field (x .state .offset) 44
+    ++ (field (answerRefusal (x .answer) .number) 44
+    ++ totals n b))
 
 -- the last line by the ending; a recovery that is open or incomplete has none
 abbrev pub endBy : Ending → Stepped → ℕ → ℕ → List ℕ

@@ -20,7 +20,7 @@ use Rattle.recovery.specs.declared.next.Found.{Found}
 use Rattle.recovery.specs.declared.next.Stepped.{Stepped}
 use Rattle.recovery.specs.declared.next.Outcome.{Outcome}
 use Rattle.recovery.specs.declared.next.Outcome.the-variants.{Met, Passed, Over}
-use Rattle.recovery.specs.Next.{fresh}
+use Rattle.recovery.specs.Next.{answerRefusal, fresh}
 use Rattle.recovery.proofs.Near.{Near, near-stands}
 use Rattle.finish.specs.Course.{Course, along, courseBy, plainly, walk, found, lastOf}
 use Rattle.text.specs.Text.{codes, decimal, placeOf}
@@ -28,7 +28,7 @@ use Rattle.text.proofs.Digits.{decimal-length, decimal-most}
 use Rattle.text.proofs.Puts.{puts-whole}
 use Rattle.report.specs.declared.input.Units.{Units}
 use Rattle.report.specs.declared.input.Units.the-variants.{Given, Bad as NoUnits}
-use Rattle.lines.specs.Lines.{field, recordLine, refusalOf, totals, lastLine, endBy, endLine}
+use Rattle.lines.specs.Lines.{field, recordLine, totals, lastLine, endBy, endLine}
 use Rattle.report.specs.Report.{recordLines, recordBytes, linesOf, walkLines, listedWith, listedRegion, unitsOf, listedBy, listing, Prints}
 
 joined : (m n : ℕ) (xs ys : List ℕ) → length xs ≤ m → length ys ≤ n → length (xs ++ ys) ≤ m + n
@@ -67,10 +67,10 @@ last-most : (word : List ℕ) (x : Stepped) (n b : ℕ) → length word ≤ 15 �
 unfolding lastLine totals
 last-most word x n b h =
     let o : List ℕ = field (x .state .offset) 44 in
-    let e : List ℕ = field (refusalOf (x .answer)) 44 in
+    let e : List ℕ = field (answerRefusal (x .answer) .number) 44 in
     joined 15 84 word (o ++ (e ++ (field n 44 ++ field b 10))) h
     (joined 21 63 o (e ++ (field n 44 ++ field b 10)) (field-most (x .state .offset) 44)
-    (joined 21 42 e (field n 44 ++ field b 10) (field-most (refusalOf (x .answer)) 44)
+    (joined 21 42 e (field n 44 ++ field b 10) (field-most (answerRefusal (x .answer) .number) 44)
     (joined 21 21 (field n 44) (field b 10) (field-most n 44) (field-most b 10))))
 
 end-most : (e : Ending) (x : Stepped) (n b : ℕ) → length (endBy e x n b) ≤ 99
