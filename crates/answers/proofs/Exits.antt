@@ -2,7 +2,8 @@
 -- Assumes nothing.
 use mathlib.Core.Path.{_≡_, refl, sym, ap, _∙_}
 use mathlib.Core.Bool.{Bool, true, false}
-use Prim.Native.Nat.{ℕ}
+use Prim.Native.Nat.{ℕ, _<_}
+use native.Mathlib.Omega.{arith}
 use borrow.Author.Tests.{eq-eqb, ne-eqb}
 use Rattle.core.specs.declared.activity.ActivityKind.{ActivityKind}
 use Rattle.core.specs.declared.timer.ClockKind.{ClockKind}
@@ -168,15 +169,15 @@ scan-goes s f = rw f
 
 -- the state behind a step from s
 module _ (s : RecoveryState) (t : Recovery) where
-  pub state-stays : (s .ending ≡ 0 → ⊥) → s ≡ stateAfter s t
-  state-stays f = rw (ne-eqb (s .ending) 0 f)
+  pub state-stays : 0 < s .ending → s ≡ stateAfter s t
+  state-stays f = rw (ne-eqb (s .ending) 0 (λ e. omega arith))
 
   pub state-moves : (y : RecoveryState) → s .ending ≡ 0 → y ≡ stateOf t → y ≡ stateAfter s t
   state-moves y f g = g ∙ rw (eq-eqb (s .ending) 0 f)
 
 module _ (s : ScanState) (t : Scan) where
-  pub scan-stays : (s .stopped ≡ 0 → ⊥) → s ≡ scanStateAfter s t
-  scan-stays f = rw (ne-eqb (s .stopped) 0 f)
+  pub scan-stays : 0 < s .stopped → s ≡ scanStateAfter s t
+  scan-stays f = rw (ne-eqb (s .stopped) 0 (λ e. omega arith))
 
   pub scan-moves : (y : ScanState) → s .stopped ≡ 0 → y ≡ scanStateOf t → y ≡ scanStateAfter s t
   scan-moves y f g = g ∙ rw (eq-eqb (s .stopped) 0 f)

@@ -1,12 +1,13 @@
 -- `answers::stepped::scan_state_after` meets its contract: one law for each exit.
 -- Assumes nothing.
 use Rattle.answers.proofs.Exits.{scan-stays, scan-moves}
+use native.Mathlib.Omega.{arith}
 use borrow.Author.Needs.{needs}
 use Rattle.answers.proofs.stepped.scan_state_after.Statement.{statement}
 use Rattle.answers.proofs.stepped.scan_state_after.Tie as tie
 
 returns : tie.Need-returns
-returns c = search scan-stays
+returns c = scan-stays _ (c .before .before .args .after) (omega arith)
 
 scan-state-of-requires : tie.Need-scan-state-of-requires
 scan-state-of-requires c κs = search needs

@@ -1,12 +1,13 @@
 -- `answers::stepped::state_after` meets its contract: one law for each exit.
 -- Assumes nothing.
 use Rattle.answers.proofs.Exits.{state-stays, state-moves}
+use native.Mathlib.Omega.{arith}
 use borrow.Author.Needs.{needs}
 use Rattle.answers.proofs.stepped.state_after.Statement.{statement}
 use Rattle.answers.proofs.stepped.state_after.Tie as tie
 
 returns : tie.Need-returns
-returns c = search state-stays
+returns c = state-stays _ (c .before .before .args .after) (omega arith)
 
 state-of-requires : tie.Need-state-of-requires
 state-of-requires c κs = search needs
