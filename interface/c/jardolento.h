@@ -130,7 +130,7 @@ struct jardolento_recovery {
     uint8_t ending;
 };
 
-/* A step answers a refusal, a record (is_found is 1), or that it has ended. */
+/* A step answers a refusal, a record (is_found is 1), or that it has ended; an ended state comes back as it was. */
 struct jardolento_recovery_step {
     struct jardolento_recovery state;
     struct jardolento_refused refused;

@@ -20,7 +20,7 @@ use Rattle.text.proofs.Places.{place-within}
 use Rattle.lines.specs.Lines.{refusedLine}
 use Rattle.report.specs.declared.input.Units.{Units}
 use Rattle.report.specs.declared.input.Units.the-variants.{Given, Bad as NoUnits}
-use Rattle.report.specs.Report.{listedWith, listedRegion, givenBy, unitsOf, listedBy, listing, Prints, Began, Lists}
+use Rattle.report.specs.Report.{listedWith, listedRegion, givenBy, unitsOf, listedBy, listing, Prints, Lists}
 use Rattle.report.proofs.Room.{whole}
 
 -- two numbers that are units were read

@@ -1,6 +1,6 @@
 -- The parts of an input around a byte, and the exits of a listing.
 -- Assumes nothing.
-use mathlib.Core.Path.{_≡_, sym, _∙_}
+use mathlib.Core.Path.{_≡_, sym}
 use mathlib.Core.List.{List}
 use Prim.Native.Nat.{ℕ, _+_, _-_, _≤_, _<_}
 use native.Mathlib.Omega.{arith}
@@ -23,7 +23,7 @@ use Rattle.lines.specs.Lines.{refusedLine}
 use Rattle.report.specs.Report.{givenBy, unitsOf, listedRegion, listing, Prints}
 use Rattle.report.specs.Inside.{Reports}
 use Rattle.report.proofs.Reporting.{prints}
-use Rattle.report.proofs.Covered.{pagedWith, page-unseen}
+use Rattle.report.proofs.Covered.{page-unseen}
 
 -- the bytes before a place, and those behind it
 module _ (s : List ℕ) (n : ℕ) where

@@ -1,16 +1,16 @@
 -- A number below 10,000 has at most four digits, since none stands in front that is zero.
 -- Assumes nothing.
-use mathlib.Core.Path.{_≡_, refl}
-use mathlib.Core.Bool.{Bool, true, false, cond, not, _&&_, _||_, and-eq-true-iff}
+use mathlib.Core.Path.{_≡_}
+use mathlib.Core.Bool.{true, false, not, _&&_, _||_, and-eq-true-iff}
 use mathlib.Core.List.{List, [], _∷_}
-use Prim.Native.Nat.{ℕ, suc, _+_, _-_, _*_, _≤_, _<_}
+use Prim.Native.Nat.{ℕ, _+_, _-_, _*_, _≤_, _<_}
 use native.Mathlib.Omega.{arith}
 use lib.Dec.{eqb, leb, ltb}
-use lib.ListN.{length, getD}
+use lib.ListN.{length}
 use borrow.Author.Tests.{eqb-false, leb-true, not-true, ne-eqb}
 use Rattle.core.proofs.Choice.{cond-case}
 use Rattle.text.specs.declared.Number.{Number}
-use Rattle.text.specs.declared.Number.the-variants.{Value, Bad}
+use Rattle.text.specs.declared.Number.the-variants.{Value}
 use Rattle.text.specs.Text.{isDigit, allDigits, wellFormed, valueFrom, valueOf, most, numberOf}
 use Rattle.text.proofs.Numbers.{value-grows}
 
