@@ -144,6 +144,7 @@ struct jardolento_scan {
     uint8_t stopped; /* 0 until the scan has stopped */
 };
 
+/* As a recovery's step; a state that has stopped comes back as it was. */
 struct jardolento_scan_step {
     struct jardolento_scan state;
     struct jardolento_refused refused;

@@ -5,7 +5,7 @@ use mathlib.Core.Path.{_≡_, refl}
 use mathlib.Core.Bool.{false}
 use mathlib.Core.List.{List, [], _∷_, _++_, map}
 use Prim.Native.Nat.{ℕ}
-use lib.ListN.{length, take, drop, replicate}
+use lib.ListN.{take, drop, replicate}
 use Rattle.core.specs.declared.«record».Record.{Record}
 use Rattle.core.specs.Refusals.{Numbered}
 use Rattle.core.specs.Kinds.{oneOf, known, runScoped, hasFree, seqFits, freeFits, widths, numbersLen, clockKnown, clockFits, plainRecord}
@@ -25,7 +25,6 @@ use Rattle.recovery.specs.Reads.{capacityOf, laid, tailReads, further, wanted, 
 use Rattle.recovery.specs.Next.{answerRefusal, walkFrom, reach, finished, ran, opened, step, fresh}
 use Rattle.finish.specs.Finish.{stepsTo, toEnd, foundsTo, founds}
 use Rattle.find.specs.Find.{findingRefusal, carries, kept, latest, searchedIn, findIn}
-use Rattle.journal.specs.declared.Journal.{Journal}
 use Rattle.journal.specs.Opening.{openingRefusal, ready, opened as openedIn}
 use Rattle.append.specs.Append.{progressRefusal, Left, onDevice, asStaged, underWay, begins, staged, isNext, confirmed, barred, moved, committed}
 

@@ -1,6 +1,6 @@
 -- An input longer than the program reads is refused by its beginning: so what is printed is the listing of all of it.
 -- Assumes nothing.
-use mathlib.Core.Path.{_≡_, refl, sym, ap, _∙_}
+use mathlib.Core.Path.{_≡_, refl, sym, ap, subst, _∙_}
 use mathlib.Core.Bool.{Bool, true, false}
 use mathlib.Core.List.{List}
 use Prim.Native.Nat.{ℕ, _+_, _-_, _≤_, _<_}
@@ -20,7 +20,7 @@ use Rattle.text.proofs.Places.{place-within}
 use Rattle.lines.specs.Lines.{refusedLine}
 use Rattle.report.specs.declared.input.Units.{Units}
 use Rattle.report.specs.declared.input.Units.the-variants.{Given, Bad as NoUnits}
-use Rattle.report.specs.Report.{listedWith, listedRegion, givenBy, unitsOf, listedBy, listing, Prints, Lists}
+use Rattle.report.specs.Report.{listedWith, listedRegion, givenBy, unitsOf, listedBy, listing, Prints, Began, Lists}
 use Rattle.report.proofs.Room.{whole}
 
 -- two numbers that are units were read
@@ -76,10 +76,14 @@ beginning m h input = go (ltb (length input) m) refl where
 
 -- s is the part of the array that was read; m and k are the arrays' lengths
 pub lists-whole : (array : List ℕ) (n : ℕ) (s out : List ℕ) (e : ℕ) (out′ : List ℕ) → s ≡ take n array → Prints (listing s) out e out′
-    → (m k : ℕ) → length array ≡ m → length out ≡ k → 32779 ≤ m → 102400 ≤ k → Lists array n e out′
+    → (m k : ℕ) → length array ≡ m → length out ≡ k → 32779 ≤ m → 102400 ≤ k → Lists array n out e out′
 lists-whole array n s out e out′ es p m k l i hm hk =
     record {
-      prints = λ input b. whole s out e out′ p (omega (arith, i)) ∙ ap listing (es ∙ b .start) ∙ beginning (length array) (omega (arith, l)) input;
+      prints = λ input b. subst (λ t. Prints t out e out′) (same input b) p;
+      all = λ input b. whole s out e out′ p (omega (arith, i)) ∙ same input b;
       within = p .within;
       part = p .part;
     }
+  where
+    same : (input : List ℕ) → Began input array n → listing s ≡ listing input
+    same input b = ap listing (es ∙ b .start) ∙ beginning (length array) (omega (arith, l)) input

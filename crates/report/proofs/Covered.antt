@@ -1,4 +1,5 @@
--- A page of at least 32,768 bytes holds every read of a region that is listed, so the lines are those of the walk with no page.
+-- A page of at least 32,768 bytes holds every read of a region that is listed, so the lines are those of the walk with
+-- no page.
 -- Assumes nothing.
 use mathlib.Core.Path.{_≡_, refl, sym, ap₂}
 use mathlib.Core.Bool.{true, _&&_, and-eq-true-iff}

@@ -63,17 +63,17 @@ line-most x h =
     (joined 2 42 k (q ++ p) (field-few 1 (kindOf (x .«record» .«record»)) 44 (omega arith) (kind-most (x .«record» .«record»)))
     (joined 21 21 q p (field-most (seqOf (x .«record» .«record»)) 44) (field-most (x .«record» .payload .len) 10)))
 
-last-most : (word : List ℕ) (x : Stepped) (n b : ℕ) → length word ≤ 15 → length (lastLine word x n b) ≤ 99
+last-most : (word : List ℕ) (x : Stepped) (n b : ℕ) → length word ≤ 13 → length (lastLine word x n b) ≤ 97
 unfolding lastLine totals
 last-most word x n b h =
     let o : List ℕ = field (x .state .offset) 44 in
     let e : List ℕ = field (answerRefusal (x .answer) .number) 44 in
-    joined 15 84 word (o ++ (e ++ (field n 44 ++ field b 10))) h
+    joined 13 84 word (o ++ (e ++ (field n 44 ++ field b 10))) h
     (joined 21 63 o (e ++ (field n 44 ++ field b 10)) (field-most (x .state .offset) 44)
     (joined 21 42 e (field n 44 ++ field b 10) (field-most (answerRefusal (x .answer) .number) 44)
     (joined 21 21 (field n 44) (field b 10) (field-most n 44) (field-most b 10))))
 
-end-most : (e : Ending) (x : Stepped) (n b : ℕ) → length (endBy e x n b) ≤ 99
+end-most : (e : Ending) (x : Stepped) (n b : ℕ) → length (endBy e x n b) ≤ 97
 end-most Clean x n b = last-most (codes "end,clean,") x n b (omega arith)
 end-most Damaged x n b = last-most (codes "end,damaged,") x n b (omega arith)
 end-most Unsealed x n b = last-most (codes "end,unsealed,") x n b (omega arith)

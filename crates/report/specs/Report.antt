@@ -83,8 +83,10 @@ pub record Prints (text out : List ℕ) (n : ℕ) (out′ : List ℕ) : Type 0 w
 pub record Began (whole array : List ℕ) (n : ℕ) : Type 0 where
   pub start : take n array ≡ take (length array) whole
 
--- the promise of the program's listing: whichever input began so, what is printed is its listing, to the last byte
-pub record Lists (array : List ℕ) (n : ℕ) (e : ℕ) (out′ : List ℕ) : Type 0 where
-  pub prints : (whole : List ℕ) → Began whole array n → take e out′ ≡ listing whole
+-- the promise of the program's listing: whichever input began so, its listing is printed, to the last byte
+pub record Lists (array : List ℕ) (n : ℕ) (out : List ℕ) (e : ℕ) (out′ : List ℕ) : Type 0 where
+  pub prints : (whole : List ℕ) → Began whole array n → Prints (listing whole) out e out′
+  pub all : (whole : List ℕ) → Began whole array n → take e out′ ≡ listing whole
+  -- the end lies in the output, as above
   pub within : e ≤ length out′
   pub part : e ≡ length (take e out′)

@@ -69,8 +69,8 @@ fn units_of(line: &[u8]) -> Units
     given(a, r)
 }
 
-// The listing of a region, or the refusal of its settings. The page is as long as the longest region, so that every read
-// fits in it.
+// The listing of a region, or the refusal of its settings. The page is as long as the longest region, so that every
+// read fits in it.
 fn list_region(program_size: u64, read_size: u64, region: &[u8], out: &mut [u8]) -> usize
     ensures { λ n. ⌜ Prints (listedRegion «program_size» «read_size» (now (region .entry))) (now (out .entry)) n (now (out .exit)) ⌝ }
 {
@@ -108,10 +108,10 @@ pub fn list(input: &[u8], out: &mut [u8]) -> usize
     }
 }
 
-// The listing of the input whose beginning stands in the array, n bytes of it: a first line of nine bytes and a region of
-// 32,768 leave room, so that what is longer is refused by its beginning; the output has room for every listing.
+// The listing of the input whose first n bytes stand in the array. A first line of nine bytes and a region of 32,768 leave
+// room there, so that a longer input is refused by its beginning; the output has room for every listing.
 pub fn list_input(input: &[u8; 32784], n: usize, out: &mut [u8; 102400]) -> usize
-    ensures { λ e. ⌜ Lists (now (input .entry)) n e (now (out .exit)) ⌝ }
+    ensures { λ e. ⌜ Lists (now (input .entry)) n (now (out .entry)) e (now (out .exit)) ⌝ }
 {
     list(before(input, n), out)
 }
