@@ -7,7 +7,7 @@ use native.Mathlib.Omega.{arith}
 use lib.ListN.{length}
 use Rattle.stdio.specs.declared.Input.{Input}
 use Rattle.stdio.specs.declared.Input.the-variants.{Bytes, Failed}
-use Rattle.stdio.specs.Stdio.{bytesOf, Reads}
+use Rattle.stdio.specs.Stdio.{cameOf, Reads}
 
 -- the loop: room is left for so many of n bytes, and the buffer keeps its length
 pub record Reading (buf₀ buf : List ℕ) (n left : ℕ) : Type 0 where
@@ -34,7 +34,7 @@ module _ (buf₀ buf : List ℕ) (n left : ℕ) (t : Reading buf₀ buf n left) 
 
   module _ (k : ℕ) (e : x ≡ Bytes k) where
     pub has-room : k ≤ left
-    has-room = let i : bytesOf x ≡ k = rw e in omega (arith, p .within, t .within, t .size, l, i)
+    has-room = let i : cameOf x ≡ k = rw e in omega (arith, p .within, t .within, t .size, l, i)
 
     pub reads-on : Reading buf₀ buf′ n (left - k)
     reads-on = record { within = omega (arith, t .within); size = t .size ∙ sym l; same = l ∙ t .same }

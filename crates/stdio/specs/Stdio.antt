@@ -7,10 +7,10 @@ use Rattle.stdio.specs.declared.Input.{Input}
 use Rattle.stdio.specs.declared.Input.the-variants.{Bytes, Failed}
 
 -- how many bytes came
-abbrev pub bytesOf : Input → ℕ
-bytesOf (Bytes n) = n
-bytesOf Failed = 0
+abbrev pub cameOf : Input → ℕ
+cameOf (Bytes n) = n
+cameOf Failed = 0
 
 -- they lie in the buffer from a place on
 pub record Reads (from : ℕ) (buf : List ℕ) (x : Input) : Type 0 where
-  pub within : bytesOf x ≤ length buf - from
+  pub within : cameOf x ≤ length buf - from
