@@ -19,13 +19,14 @@ use Rattle.frame.specs.Format.{numbersOf, payloadOf, sealedHeader, headerOf, co
 use Rattle.encode.specs.Encode.{overwritten, encodedBytes, encoded}
 use Rattle.payload.specs.Payload.{lengthFits, recordWith, wellFormed, bodyRefusal, bodyAt}
 use Rattle.decode.specs.Decode.{headerAt, frameLenOf, frameLenRefusal, frameUnder, decodingRefusal, decoded}
-use Rattle.place.specs.Stands.{standRefusal, settled, judged, stride, shapeOf, stands}
-use Rattle.scan.specs.Scan.{stepRefusal, scanned, walkFrom as scanFrom, answered, ran as scanRan, stepOf}
-use Rattle.recovery.specs.Reads.{capacityOf, laid, tailReads, further, wanted, made, seenBy}
-use Rattle.recovery.specs.Next.{answerRefusal, walkFrom, reach, finished, ran, opened, step, fresh}
-use Rattle.finish.specs.Finish.{stepsTo, toEnd, foundsTo, founds}
-use Rattle.find.specs.Find.{findingRefusal, carries, kept, latest, searchedIn, findIn}
-use Rattle.journal.specs.Opening.{openingRefusal, ready, opened as openedIn}
+use Rattle.place.specs.Stands.{standRefusal, settled, judged, shapeOf, stands}
+use Rattle.place.specs.Walk.{walkOver, walk}
+use Rattle.scan.specs.Scan.{stepRefusal, scanned, stepOf}
+use Rattle.recovery.specs.Reads.{capacityOf, laid, tailReads, further, wanted, made, seenBy, paged, readsAt, readsAll}
+use Rattle.recovery.specs.Next.{answerRefusal, walkFrom, pageAfter, before, step, fresh}
+use Rattle.finish.specs.Finish.{toEnd, founds}
+use Rattle.find.specs.Find.{findingRefusal, carries, kept, latest, findIn}
+use Rattle.journal.specs.Opening.{openingRefusal, ready, opened}
 use Rattle.append.specs.Append.{progressRefusal, Left, onDevice, asStaged, underWay, begins, staged, isNext, confirmed, barred, moved, committed}
 
 -- a timer fired, sequence 7
@@ -61,7 +62,7 @@ abbrev atScan : ℕ → ℕ → List ℕ → Numbered
 atScan a o j = stepRefusal (stepOf (record { align = a; offset = o; stopped = false }) j)
 
 abbrev atOpen : ℕ → ℕ → List ℕ → ℕ → Numbered
-atOpen a r region page = openingRefusal (openedIn a r region (replicate page 0) .opening)
+atOpen a r region page = openingRefusal (opened a r region (replicate page 0) .opening)
 
 abbrev atFind : ℕ → ℕ → List ℕ → ℕ → Numbered
 atFind a r region page = findingRefusal (findIn 7 a r region (replicate page 0) .finding)
@@ -148,5 +149,5 @@ wished (gives x n w m) = n ∷ w ∷ m ∷ []
 
 -- the whole table, computed
 numbers : map given table ≡ map wished table
-unfolding table oneOf known runScoped hasFree seqFits freeFits widths numbersLen clockKnown clockFits plainRecord bitStep bitSteps octet octets fcs headerCheck frameCheck unitUpTo programUnit readUnit regionLength allowed settings roundUp programmedFrom erased ands programmed laidOver bytesLE valueLE fieldBytes fields bodyLen recordLen wellGiven payloadFits payloadLen withUnit encodedLenFor encodedLen numbersOf payloadOf sealedHeader headerOf coveredOf checkOf frameOf paddingOf sealByte sealFrom bodyOf recordOf sealedFrom sealHolds overwritten encodedBytes encoded lengthFits recordWith wellFormed bodyAt headerAt frameLenOf frameUnder decoded settled judged stride shapeOf stands scanned scanFrom answered scanRan stepOf capacityOf laid tailReads further wanted made seenBy walkFrom reach finished ran opened step stepsTo toEnd foundsTo founds carries kept latest searchedIn findIn openedIn onDevice asStaged underWay begins staged isNext confirmed barred moved committed
+unfolding table oneOf known runScoped hasFree seqFits freeFits widths numbersLen clockKnown clockFits plainRecord bitStep bitSteps octet octets fcs headerCheck frameCheck unitUpTo programUnit readUnit regionLength allowed settings roundUp programmedFrom erased ands programmed laidOver bytesLE valueLE fieldBytes fields bodyLen recordLen wellGiven payloadFits payloadLen withUnit encodedLenFor encodedLen numbersOf payloadOf sealedHeader headerOf coveredOf checkOf frameOf paddingOf sealByte sealFrom bodyOf recordOf sealedFrom sealHolds overwritten encodedBytes encoded lengthFits recordWith wellFormed bodyAt headerAt frameLenOf frameUnder decoded settled judged shapeOf stands walkOver walk scanned stepOf capacityOf laid tailReads further wanted made seenBy paged readsAt readsAll walkFrom pageAfter before step toEnd founds carries kept latest findIn opened onDevice asStaged underWay begins staged isNext confirmed barred moved committed
 numbers = refl

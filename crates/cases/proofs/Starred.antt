@@ -13,11 +13,12 @@ use Rattle.frame.specs.declared.lengths.Size.the-variants.{Bytes, Refused}
 use Rattle.frame.specs.Format.{sealByte, sealFrom, sealOf}
 use Rattle.frame.specs.Lengths.{bodyLen, recordLen, sizeRefusal, payloadFits, withUnit, encodedLenFor}
 use Rattle.place.specs.Stands.{shapeOf, stands}
+use Rattle.place.specs.Walk.{walkOver, walk}
 use Rattle.recovery.specs.declared.next.Ending.{Ending}
 use Rattle.recovery.specs.declared.next.Ending.the-variants.{Clean, Damaged}
 use Rattle.recovery.specs.declared.next.Stepped.{Stepped}
-use Rattle.recovery.specs.Reads.{capacityOf, laid, tailReads, further, wanted, made, seenBy}
-use Rattle.recovery.specs.Next.{answerRefusal, walkFrom, reach, finished, ran, opened, step, fresh}
+use Rattle.recovery.specs.Reads.{capacityOf, laid, tailReads, further, wanted, made, seenBy, paged, readsAt, readsAll}
+use Rattle.recovery.specs.Next.{answerRefusal, walkFrom, pageAfter, before, step, fresh}
 
 pub data Case : Type 0 where
   -- the record length for a payload's length, with a program unit
@@ -96,5 +97,5 @@ results =
     ∷ []
 
 pub starred : map tried inputs ≡ results
-unfolding unitUpTo programUnit roundUp bodyLen recordLen payloadFits withUnit encodedLenFor sealByte sealFrom readUnit regionLength allowed programmedFrom erased laidOver shapeOf stands capacityOf laid tailReads further wanted made seenBy walkFrom reach finished ran opened step inputs results
+unfolding unitUpTo programUnit roundUp bodyLen recordLen payloadFits withUnit encodedLenFor sealByte sealFrom readUnit regionLength allowed programmedFrom erased laidOver shapeOf stands walkOver walk capacityOf laid tailReads further wanted made seenBy paged readsAt readsAll walkFrom pageAfter before step inputs results
 starred = refl

@@ -25,7 +25,7 @@ use Rattle.decode.specs.declared.Header.the-variants.{Verified, Refused as NoHe
 use Rattle.decode.specs.declared.VerifiedHeader.{VerifiedHeader}
 use Rattle.decode.specs.Decode.{headerAt}
 use Rattle.payload.specs.Payload.{part}
-use Rattle.place.specs.declared.Stand.the-variants.{Found}
+use Rattle.place.specs.declared.Stand.the-variants.{Met}
 use Rattle.place.specs.Stands.{stands}
 use Rattle.roundtrip.specs.Typed.{AllBytes, Typed}
 use Rattle.roundtrip.proofs.Lists.{bytes-append, number-bytes, covered-bytes, payload-bytes}
@@ -325,7 +325,7 @@ module _ (a : ℕ) (h : 0 < a) (base r : List ℕ) (o : ℕ) (x : Given) (bs : L
       let l : recordLen a p ≡ length (body ++ seal) = sym record-long in
       ap (λ s. stands a (s ++ rest)) record-is
       ∙ looked-whole a h (x .«record») (x .free) (v .taken) rest
-      ∙ ap (λ m. Found (record { «record» = given x .«record»; payload = part 12 p; len = m })) l)
+      ∙ ap (λ m. Met (record { «record» = given x .«record»; payload = part 12 p; len = m })) l)
       payload-there (omega (arith, record-long, body-least a p h)))
 
   -- a region with the whole record, and erased from there on

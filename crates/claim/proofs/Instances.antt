@@ -22,14 +22,15 @@ use Rattle.frame.specs.Bytes.{bytesLE, valueLE, fieldBytes, fields}
 use Rattle.frame.specs.Lengths.{bodyLen, recordLen, wellGiven, payloadFits, payloadLen}
 use Rattle.frame.specs.Format.{numbersOf, payloadOf, sealedHeader, headerOf, coveredOf, checkOf, frameOf, paddingOf, sealByte, sealFrom, bodyOf, sealedFrom, sealHolds}
 use Rattle.payload.specs.Payload.{lengthFits, recordWith, wellFormed, bodyAt}
-use Rattle.decode.specs.Decode.{headerAt, frameLenOf, frameUnder, decoded}
-use Rattle.place.specs.Stands.{settled, judged, stride, shapeOf, stands}
+use Rattle.decode.specs.Decode.{headerAt, frameUnder, decoded}
+use Rattle.place.specs.Stands.{settled, judged, shapeOf, stands}
 use Rattle.recovery.specs.Next.{fresh}
-use Rattle.finish.specs.Course.{Course, courseBy, walk}
+use Rattle.place.specs.Walk.{plain, Walk, walkOver, walk}
+use Rattle.finish.specs.Finish.{lastOf}
 use Rattle.roundtrip.specs.Typed.{AllBytes, Typed}
 use Rattle.journal.specs.declared.Journal.{Journal}
 use Rattle.journal.specs.declared.Opening.{Opening}
-use Rattle.journal.specs.Opening.{openBy}
+use Rattle.journal.specs.Opening.{openingOf}
 use Rattle.append.specs.Append.{unitOf, roomOf, stagedWith, asStaged, onDevice, underWay, begins, staged, isNext, confirmed, barred, moved, committed}
 use Rattle.claim.specs.Cuts.{bit, Mixed, Cut}
 use Rattle.claim.specs.Saying.{Given, given, allGiven}
@@ -47,12 +48,12 @@ use Rattle.claim.proofs.Demand3.{demand-3}
 abbrev spare : List ℕ
 spare = replicate 64 0
 
-abbrev opensBy : Course → Opening
-opensBy c = openBy (units 64 4 1) (c .at) (c .answer) (c .ending)
+abbrev opensBy : Walk → Opening
+opensBy w = openingOf (units 64 4 1) (lastOf (fresh (units 64 4 1)) w)
 
 -- what a call comes to, an opening by the walk without a page
 abbrev plainly : Machine → Call → Outcome
-plainly m (opening page) = let c : Course = walk 4 (m .region) 0 in afterOpening m (opensBy c)
+plainly m (opening page) = let w : Walk = walk (plain 4) (m .region) 0 in afterOpening m (opensBy w)
 plainly m (stage x page) = done 4 1 m (stage x spare)
 plainly m barrier = done 4 1 m barrier
 plainly m commit = done 4 1 m commit
@@ -126,7 +127,7 @@ expected x = record { valid = true; verdicts = answers (x .entries); book = x .b
 
 -- the whole table, computed
 tried-table : map tried table ≡ map expected table
-unfolding traced walk courseBy stands shapeOf erased programmedFrom programmed ands bitStep bitSteps octet octets fcs headerCheck frameCheck bytesLE valueLE fieldBytes fields bodyLen recordLen wellGiven payloadFits payloadLen numbersOf payloadOf sealedHeader headerOf coveredOf checkOf frameOf paddingOf sealByte sealFrom bodyOf sealedFrom sealHolds widths roundUp lengthFits recordWith wellFormed bodyAt headerAt frameLenOf frameUnder decoded settled judged stride known seqFits runScoped hasFree oneOf freeFits clockKnown clockFits numbersLen allowed regionLength programUnit readUnit unitUpTo asStaged onDevice underWay begins staged isNext confirmed barred moved committed
+unfolding traced walk walkOver stands shapeOf erased programmedFrom programmed ands bitStep bitSteps octet octets fcs headerCheck frameCheck bytesLE valueLE fieldBytes fields bodyLen recordLen wellGiven payloadFits payloadLen numbersOf payloadOf sealedHeader headerOf coveredOf checkOf frameOf paddingOf sealByte sealFrom bodyOf sealedFrom sealHolds widths roundUp lengthFits recordWith wellFormed bodyAt headerAt frameUnder decoded settled judged known seqFits runScoped hasFree oneOf freeFits clockKnown clockFits numbersLen allowed regionLength programUnit readUnit unitUpTo asStaged onDevice underWay begins staged isNext confirmed barred moved committed
 tried-table = refl
 
 -- # What it tests is so

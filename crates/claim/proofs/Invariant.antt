@@ -22,14 +22,12 @@ use Rattle.frame.specs.declared.lengths.Size.{Size}
 use Rattle.frame.specs.declared.lengths.Size.the-variants.{Bytes as Long, Refused as NoLength}
 use Rattle.frame.specs.Lengths.{bodyLen, recordLen, payloadLen}
 use Rattle.frame.specs.Format.{sealOf, sealHolds}
-use Rattle.recovery.specs.declared.next.Ending.{Ending}
-use Rattle.recovery.specs.declared.next.Ending.the-variants.{Open, Clean, Damaged, Incomplete, Unsealed}
-use Rattle.recovery.specs.declared.next.Answer.{Answer}
-use Rattle.recovery.specs.declared.next.Answer.the-variants.{Found as OneMore, Ended, Refused as NoRecord}
 use Rattle.recovery.specs.Next.{fresh}
 use Rattle.recovery.proofs.Pages.{front-bytes, capacity-large}
-use Rattle.finish.specs.Finish.{founds, toEnd}
-use Rattle.finish.specs.Course.{walk}
+use Rattle.finish.specs.Finish.{lastOf, founds, toEnd}
+use Rattle.place.specs.declared.Stop.{Stop}
+use Rattle.place.specs.declared.Stop.the-variants.{End, Bad, NoSeal, TooSmall}
+use Rattle.place.specs.Walk.{plain, walk}
 use Rattle.finish.proofs.Walks.{Goes, run-without-page}
 use Rattle.roundtrip.specs.Typed.{AllBytes, Typed}
 use Rattle.roundtrip.proofs.Lists.{bytes-append}
@@ -38,7 +36,7 @@ use Rattle.journal.specs.declared.WriteAmplification.{WriteAmplification}
 use Rattle.journal.specs.declared.Journal.{Journal}
 use Rattle.journal.specs.declared.Opening.{Opening}
 use Rattle.journal.specs.declared.Opening.the-variants.{Opened, Refused as NoJournal}
-use Rattle.journal.specs.Opening.{none as nothingWritten, ready, asGiven, openBy, opened}
+use Rattle.journal.specs.Opening.{none as nothingWritten, ready, openingOf, opened}
 use Rattle.append.specs.Append.{counts, plus, unitOf, Left, keeps as refusing, checkFor, bodyFor, onDevice, stagedWith, begins, staged, underWay, isNext, confirmed, barred, moved, committed}
 use Rattle.claim.specs.Cuts.{Cut}
 use Rattle.claim.specs.Saying.{Given, payloadFor, allGiven}
@@ -120,12 +118,12 @@ module _ (n a r : ℕ) (ok : allowed n a r ≡ true) where
 
   -- the walk of an opening: no page in it
   pub opening-is : (s page : List ℕ) → Sound s → Large page
-      → opened a r s page .opening ≡ openBy g (walk a s 0 .at) (walk a s 0 .answer) (walk a s 0 .ending)
+      → opened a r s page .opening ≡ openingOf g (lastOf (fresh g) (walk (plain a) s 0))
   unfolding opened settings
   opening-is s page x h =
-      let t : Goes (fresh g) (founds (fresh g) s page) (toEnd (fresh g) s page .out) (walk a s 0) =
-      run-without-page (fresh g) s page refl ok (x .size) (x .bytes) (capacity-large (length page) r (both-units .1) (omega (arith, h))) in
-      rw (x .size, ok) (ap (λ y. openBy g (y .state .offset) (y .answer) (y .state .ending)) (t .ends))
+      let t : Goes (fresh g) (founds (fresh g) s page) (toEnd (fresh g) s page .out) (walk (plain a) s 0) =
+      run-without-page (fresh g) s page (record { still = refl; units = ok; size = x .size }) (x .bytes) (capacity-large (length page) r (both-units .1) (omega (arith, h))) in
+      rw (x .size, ok) (ap (openingOf g) (t .ends))
 
   -- a region in which nothing is loose
   module _ (s : List ℕ) (bs : List Given) (x : Sound s) (v : Shape a s bs) where
@@ -133,21 +131,15 @@ module _ (n a r : ℕ) (ok : allowed n a r ≡ true) where
     calm-cut u c = subst (λ t. Inv (at (lost t) false nothing bs)) (sym (cut-same s u c)) (lost-inv s bs x v)
 
     calm-opening : (held : Held) (k : Bool) (page : List ℕ) → Large page → Inv (called (at (machine s s held) k nothing bs) (opening page) (done a r (machine s s held) (opening page)))
-    calm-opening held k page h = subst P (sym (opening-is s page x h)) (go (walk a s 0 .ending) refl) where
+    calm-opening held k page h = subst P (sym (opening-is s page x h)) (go (walk (plain a) s 0 .stop) refl) where
       P : Opening → Type 0
       P y = Inv (called (at (machine s s held) k nothing bs) (opening page) (afterOpening (machine s s held) y))
 
-      given : (y : Answer) → P (asGiven y)
-      given (NoRecord e) = lost-inv s bs x v
-      given Ended = lost-inv s bs x v
-      given (OneMore z) = lost-inv s bs x v
-
-      go : (e : Ending) → walk a s 0 .ending ≡ e → P (openBy g (walk a s 0 .at) (walk a s 0 .answer) e)
-      go Clean f = ready-inv s (walk a s 0 .at) nothingWritten bs x (opened-ready a some s bs (skipped-local a some) v f)
-      go Damaged f = lost-inv s bs x v
-      go Unsealed f = lost-inv s bs x v
-      go Open f = lost-inv s bs x v
-      go Incomplete f = given (walk a s 0 .answer)
+      go : (e : Stop) → walk (plain a) s 0 .stop ≡ e → P (openingOf g (lastOf (fresh g) (record { way = walk (plain a) s 0 .way; at = walk (plain a) s 0 .at; stop = e })))
+      go End f = ready-inv s (walk (plain a) s 0 .at) nothingWritten bs x (opened-ready a some s bs (skipped-local a some) v f)
+      go (Bad e) f = lost-inv s bs x v
+      go NoSeal f = lost-inv s bs x v
+      go (TooSmall m) f = lost-inv s bs x v
 
   -- a cut between two calls keeps the invariant
   cut-inv : (s : State) → Inv s → (u : List ℕ) → Torn (s .machine) u → Inv (cutOff s false u)
@@ -394,7 +386,7 @@ module _ (n a r : ℕ) (ok : allowed n a r ≡ true) where
   pub run-finds : (s : State) → Inv s → (page : List ℕ) → Large page → allSaidIn (s .machine .region) (founds (fresh g) (s .machine .region) page) ≡ allGiven (s .book .records)
   run-finds s i page h =
       let u : List ℕ = s .machine .region in
-      ap (allSaidIn u) (run-without-page (fresh g) u page refl ok (sound-of s i .size) (sound-of s i .bytes) (capacity-large (length page) r (both-units .1) (omega (arith, h))) .finds)
+      ap (allSaidIn u) (run-without-page (fresh g) u page (record { still = refl; units = ok; size = sound-of s i .size }) (sound-of s i .bytes) (capacity-large (length page) r (both-units .1) (omega (arith, h))) .finds)
       ∙ finds a some u (s .book .records) (shape-of s i)
 
   -- and all this holds after every list that demand 3 speaks of

@@ -20,25 +20,22 @@ use Rattle.frame.specs.Lengths.{frameLen, bodyLen, recordLen}
 use Rattle.frame.specs.Format.{numbersOf, payloadOf, frameOf, paddingOf, bodyOf, recordOf, sealOf, sealHolds}
 use Rattle.seal.proofs.Seals.{seal-length, seal-holds, erased-no-seal}
 use Rattle.encode.specs.Encode.{encodedBytes}
-use Rattle.payload.specs.declared.Decoded.{Decoded}
-use Rattle.payload.specs.declared.Decoded.the-variants.{Record as Known, UnknownKind}
 use Rattle.payload.specs.Payload.{part, recordWith}
 use Rattle.decode.specs.declared.VerifiedHeader.{VerifiedHeader}
 use Rattle.decode.specs.declared.Header.{Header}
-use Rattle.decode.specs.declared.Header.the-variants.{Verified, Refused as NoHeader}
+use Rattle.decode.specs.declared.Header.the-variants.{Verified}
 use Rattle.decode.specs.declared.Frame.{Frame as FrameOf}
-use Rattle.decode.specs.declared.Decoding.{Decoding}
-use Rattle.decode.specs.declared.Decoding.the-variants.{Frame, Refused}
-use Rattle.decode.specs.Decode.{headerAt, lengthBy, frameLenOf, decoded}
+use Rattle.decode.specs.Decode.{headerAt, decoded}
 use Rattle.roundtrip.specs.ReadBack.{frameGiven}
 use Rattle.roundtrip.proofs.Frames.{header-of-frame, payload-size, payload-small}
 use Rattle.roundtrip.proofs.Fronts.{header-front}
 use Rattle.roundtrip.proofs.RoundTrip.{frame-read, Taken, body-length}
 use Rattle.place.specs.declared.Stand.{Stand}
-use Rattle.place.specs.declared.Stand.the-variants.{Found, Skipped, Damaged}
-use Rattle.place.specs.Stands.{redeliverable, underSeal, settled, judgedBy, judged, stride, Shape, headed, shapeOf, cleanOr, verdict, stands}
+use Rattle.place.specs.declared.Stand.the-variants.{Met, Passed}
+use Rattle.place.specs.Stands.{redeliverable, settled, judgedBy, judged, shapeOf, cleanOr, stands}
+use Rattle.place.proofs.Cases.{settled-case, judged-case, stands-case}
+use Rattle.place.proofs.Lengths.{near-stands}
 use Rattle.append.specs.Append.{checkFor, bodyFor}
-use Rattle.recovery.proofs.Near.{near-stands}
 use Rattle.claim.proofs.Calm.{Calm}
 
 -- parts of erased bytes
@@ -78,7 +75,7 @@ header-first s l =
     let k : length (take 12 s) ≡ 12 = length-take-le 12 s l in
     sym (header-front (take 12 s) (drop 12 s) (omega arith)) ∙ ap headerAt (take-append-drop 12 s)
 
-clean-skips : {A : Type 0} (d : DecodeError) (b : Bool) (n : ℕ) → cleanOr d b ≡ Skipped n → A
+clean-skips : {A : Type 0} (d : DecodeError) (b : Bool) (n : ℕ) → cleanOr d b ≡ Passed n → A
 clean-skips d true n e = let z : _≡_ {A = ℕ} 0 1 = cc in absurd (omega arith)
 clean-skips d false n e = let z : _≡_ {A = ℕ} 0 1 = cc in absurd (omega arith)
 
@@ -88,46 +85,17 @@ calm-end t d true e = e
 calm-end t d false e = tt
 
 module _ (a : ℕ) where
-  record-is : (p : ℕ) → stride a (frameLen p) ≡ bodyLen a p + a
-  unfolding stride bodyLen
+  record-is : (p : ℕ) → recordLen a p ≡ bodyLen a p + a
+  unfolding recordLen
   record-is p = refl
 
-  -- what holds of an end, of damage and of a record that lies in the tail holds of what stands there
-  stands-case : (t : List ℕ) (P : Stand → Type 0) → ((e : DecodeError) → P (cleanOr e (erased t))) → ((e : DecodeError) → P (Damaged e))
-      → ((v : VerifiedHeader) → headerAt (take 12 t) ≡ Verified v → stride a (frameLen (v .«payload_len»)) ≤ length t → P (judged a (take (stride a (frameLen (v .«payload_len»))) t)))
-      → P (stands a t)
-  unfolding stands shapeOf frameLenOf
-  stands-case t P f g k =
-      let Q : Shape → Type 0 = λ s. P (verdict a t s) in
-      cond-case Q (ltb (length t) 12) (λ _. f _)
-      (λ _. cond-case Q (erased (take 12 t)) (λ _. f _) (λ _. go (headerAt (take 12 t)) refl))
-    where
-      go : (d : Header) → headerAt (take 12 t) ≡ d → P (verdict a t (headed a (length t) (lengthBy d)))
-      go (NoHeader e) i = g e
-      go (Verified v) i =
-          cond-case (λ s. P (verdict a t s)) (ltb (length t) (stride a (frameLen (v .«payload_len»)))) (λ _. g _)
-          (λ j. k v i (ltb-false (length t) (stride a (frameLen (v .«payload_len»))) j))
-
-  -- the same of a record's bytes: they are damaged or a frame
-  judged-case : (s : List ℕ) (P : Stand → Type 0) → ((e : DecodeError) → P (Damaged e)) → ((f : FrameOf) → P (settled a f s)) → P (judged a s)
-  unfolding judged
-  judged-case s P g k = go (decoded s) where
-    go : (d : Decoding) → P (judgedBy a s d)
-    go (Frame f) = k f
-    go (Refused e) = g e
-
   -- a record that is skipped is skipped as a whole
-  skips-all : (s : List ℕ) (n : ℕ) → judged a s ≡ Skipped n → length s ≡ n
-  unfolding settled
+  skips-all : (s : List ℕ) (n : ℕ) → judged a s ≡ Passed n → length s ≡ n
   skips-all s n =
-      let P : Stand → Type 0 = λ x. x ≡ Skipped n → length s ≡ n in
-      judged-case s P (λ d e. let z : _≡_ {A = ℕ} 0 1 = cc in absurd (omega arith))
-      (λ f. cond-case P (sealHolds (f .«frame_crc») (drop (length s - a) s)) (λ _. under f (f .decoded))
-      (λ _. cond-case P (redeliverable (f .decoded) && erased (drop (f .«frame_len») s)) (λ _ e. cc) (λ _ e. let z : _≡_ {A = ℕ} 0 1 = cc in absurd (omega arith))))
-    where
-      under : (f : FrameOf) (d : Decoded) → underSeal d f (length s) ≡ Skipped n → length s ≡ n
-      under f (Known r) e = let z : _≡_ {A = ℕ} 0 1 = cc in absurd (omega arith)
-      under f (UnknownKind k) e = let z : _≡_ {A = ℕ} 0 1 = cc in absurd (omega arith)
+      let P : Stand → Type 0 = λ x. x ≡ Passed n → length s ≡ n in
+      judged-case a P s (λ d e. let z : _≡_ {A = ℕ} 0 1 = cc in absurd (omega arith))
+      (λ f. settled-case a P f s (λ x e. let z : _≡_ {A = ℕ} 0 1 = cc in absurd (omega arith)) (λ e. cc)
+      (λ d e. let z : _≡_ {A = ℕ} 0 1 = cc in absurd (omega arith)) (λ e. let z : _≡_ {A = ℕ} 0 1 = cc in absurd (omega arith)))
 
   -- a record whose slot holds no seal is calm where all behind it is erased
   calm-settled : (t : List ℕ) (f : FrameOf) (s : List ℕ) → sealHolds (f .«frame_crc») (drop (length s - a) s) ≡ false → erased (drop (length s) t) ≡ true
@@ -139,30 +107,30 @@ module _ (a : ℕ) where
   pub calm-torn : 0 < a → (w : List ℕ) (d : ℕ) → erased (drop d w) ≡ true
       → ((v : VerifiedHeader) → headerAt (take 12 w) ≡ Verified v → d ≤ bodyLen a (v .«payload_len»)) → Calm w (stands a w)
   calm-torn h w d e far =
-      stands-case w (Calm w) (λ x. calm-end w x (erased w) refl) (λ x. tt)
+      stands-case a (Calm w) w (λ x. calm-end w x (erased w) refl) (λ x. tt)
       (λ v i l.
       let b : ℕ = bodyLen a (v .«payload_len») in
-      let m : ℕ = stride a (frameLen (v .«payload_len»)) in
+      let m : ℕ = recordLen a (v .«payload_len») in
       let s : List ℕ = take m w in
       let size : length s ≡ b + a = length-take-le m w l ∙ record-is (v .«payload_len») in
       let at : length s - a ≡ b = omega arith in
       let parts : drop b s ++ drop m w ≡ drop b w = sym (drop-append-le b s (drop m w) (omega arith)) ∙ ap (drop b) (take-append-drop m w) in
       let slot : erased (drop b s) ≡ true = erased-parts (drop b s) (drop m w) (ap erased parts ∙ erased-later w d b (far v i) e) .0 in
-      judged-case s (Calm w) (λ x. tt)
+      judged-case a (Calm w) s (λ x. tt)
       (λ f.
       calm-settled w f s (ap (λ k. sealHolds (f .«frame_crc») (drop k s)) at ∙ erased-unsealed (f .«frame_crc») (drop b s) slot)
       (erased-later w d (length s) (omega (arith, far v i)) e)))
 
   module _ (h : 0 < a) where
-    record-least : (p : ℕ) → 16 + p + a ≤ stride a (frameLen p)
-    unfolding stride
+    record-least : (p : ℕ) → 16 + p + a ≤ recordLen a p
+    unfolding recordLen bodyLen
     record-least p = omega (arith, up-least (frameLen p) a h)
 
     -- a record's own bytes decide, whatever follows
-    stands-whole : (v : VerifiedHeader) (s rest : List ℕ) → length s ≡ stride a (frameLen (v .«payload_len»)) → headerAt s ≡ Verified v → stands a (s ++ rest) ≡ judged a s
-    unfolding stands shapeOf frameLenOf
+    stands-whole : (v : VerifiedHeader) (s rest : List ℕ) → length s ≡ recordLen a (v .«payload_len») → headerAt s ≡ Verified v → stands a (s ++ rest) ≡ judged a s
+    unfolding stands shapeOf
     stands-whole v s rest l e =
-        let m : ℕ = stride a (frameLen (v .«payload_len»)) in
+        let m : ℕ = recordLen a (v .«payload_len») in
         let long : 12 ≤ length s = omega (arith, record-least (v .«payload_len»)) in
         let both : length (s ++ rest) ≡ length s + length rest = length-append s rest in
         let head : headerAt (take 12 s) ≡ Verified v = header-first s long ∙ e in
@@ -176,13 +144,13 @@ module _ (a : ℕ) where
         )
 
     -- Where n bytes of a tail are skipped, these bytes alone decide it, whatever follows them.
-    pub skipped-local : (t : List ℕ) (n : ℕ) → stands a t ≡ Skipped n → (rest : List ℕ) → stands a (take n t ++ rest) ≡ Skipped n
+    pub skipped-local : (t : List ℕ) (n : ℕ) → stands a t ≡ Passed n → (rest : List ℕ) → stands a (take n t ++ rest) ≡ Passed n
     skipped-local t n =
-        stands-case t (λ x. x ≡ Skipped n → (rest : List ℕ) → stands a (take n t ++ rest) ≡ Skipped n)
+        stands-case a (λ x. x ≡ Passed n → (rest : List ℕ) → stands a (take n t ++ rest) ≡ Passed n) t
         (λ d e rest. clean-skips d (erased t) n e)
         (λ d e rest. let z : _≡_ {A = ℕ} 0 1 = cc in absurd (omega arith))
         (λ v i l e rest.
-        let m : ℕ = stride a (frameLen (v .«payload_len»)) in
+        let m : ℕ = recordLen a (v .«payload_len») in
         let long : 12 ≤ m = omega (arith, record-least (v .«payload_len»)) in
         let size : length (take m t) ≡ m = length-take-le m t l in
         let all : m ≡ n = sym size ∙ skips-all (take m t) n e in
@@ -190,11 +158,11 @@ module _ (a : ℕ) where
         ap (λ k. stands a (take k t ++ rest)) (sym all) ∙ stands-whole v (take m t) rest size head ∙ e)
 
     -- The bytes that are skipped lie in the tail.
-    pub skipped-within : (t : List ℕ) (n : ℕ) → stands a t ≡ Skipped n → n ≤ length t
+    pub skipped-within : (t : List ℕ) (n : ℕ) → stands a t ≡ Passed n → n ≤ length t
     skipped-within t n e = let k = rw e at (near-stands a t h) in k .most
 
     -- A skip moves on.
-    pub skipped-some : (t : List ℕ) (n : ℕ) → stands a t ≡ Skipped n → 0 < n
+    pub skipped-some : (t : List ℕ) (n : ℕ) → stands a t ≡ Passed n → 0 < n
     skipped-some t n e = let k = rw e at (near-stands a t h) in omega (arith, k .least)
 
     -- a record that encode takes, with a slot behind its body
@@ -222,7 +190,7 @@ module _ (a : ℕ) where
         own-parts = append-assoc (frameOf (x .kind .0) (x .seq .0) (payloadOf x free)) (paddingOf a p) slot
 
         own-stands : (rest : List ℕ) → stands a (own slot ++ rest) ≡ settled a (frameGiven x free) (own slot)
-        unfolding judged stride recordLen bodyLen
+        unfolding judged
         own-stands rest =
             let small : p < 65536 = omega (arith, payload-size x free (t .size) (t .typed) (t .taken), payload-small x free (t .size) (t .typed) (t .taken)) in
             stands-whole _ (own slot) rest own-length
@@ -242,7 +210,7 @@ module _ (a : ℕ) where
       -- A whole record is found, as it was given, whatever follows it.
       pub looked-whole : (rest : List ℕ)
           → stands a (encodedBytes a x free ++ rest)
-          ≡ Found (record { «record» = recordWith (x .kind .0) (x .seq .0) (numbersOf x) (length (payloadOf x free)); payload = part 12 (length (payloadOf x free)); len = recordLen a (length (payloadOf x free)) })
+          ≡ Met (record { «record» = recordWith (x .kind .0) (x .seq .0) (numbersOf x) (length (payloadOf x free)); payload = part 12 (length (payloadOf x free)); len = recordLen a (length (payloadOf x free)) })
       unfolding encodedBytes recordOf settled frameGiven
       looked-whole rest =
           let c : ℕ = checkFor x free in

@@ -1,25 +1,21 @@
 -- The payload of a record that a step finds is a part of the caller's page, the same bytes as in the region.
 -- Assumes nothing.
 use mathlib.Core.Path.{_≡_, refl, sym, ap, subst, _∙_}
-use mathlib.Core.Bool.{Bool, true, false, cond, not, _&&_}
+use mathlib.Core.Bool.{Bool, true, false, cond, not}
 use mathlib.Core.List.{List, [], _∷_}
-use Prim.Native.Nat.{ℕ, zero, suc, _+_, _-_, _≤_}
+use Prim.Native.Nat.{ℕ, _+_, _-_, _≤_, _<_}
 use native.Mathlib.Omega.{arith}
 use lib.Dec.{ltb, eqb}
 use lib.ListN.{length, take, drop, length-drop, take-append-drop}
 use lib.Seq.{length-take-le, take-append-le, drop-append-le, drop-drop}
 use borrow.Author.Tests.{le-ltb, ltb-false, eqb-true}
-use Rattle.core.specs.declared.error.DecodeError.{DecodeError}
 use Rattle.core.proofs.Choice.{cond-case}
 use Rattle.integrity.specs.Fcs.{frameCheck}
-use Rattle.storage.specs.Settings.{allowed}
+use Rattle.storage.proofs.Units.{limits}
 use Rattle.storage.specs.Media.{erased, laidOver, readAt}
 use Rattle.storage.proofs.Reading.{laid-length}
 use Rattle.frame.specs.Bytes.{valueAt}
-use Rattle.frame.specs.Lengths.{frameLen}
-use Rattle.frame.specs.Format.{sealHolds}
-use Rattle.payload.specs.declared.Decoded.{Decoded}
-use Rattle.payload.specs.declared.Decoded.the-variants.{Record as Known, UnknownKind}
+use Rattle.frame.specs.Lengths.{frameLen, recordLen}
 use Rattle.payload.specs.declared.Body.{Body}
 use Rattle.payload.specs.declared.Body.the-variants.{Decoded as Says, Malformed}
 use Rattle.payload.specs.Payload.{bodyAt}
@@ -28,24 +24,25 @@ use Rattle.decode.specs.declared.Header.{Header}
 use Rattle.decode.specs.declared.Header.the-variants.{Verified, Refused as NoHeader}
 use Rattle.decode.specs.declared.Frame.{Frame as FrameOf}
 use Rattle.decode.specs.declared.Decoding.{Decoding}
-use Rattle.decode.specs.declared.FrameLen.{FrameLen}
-use Rattle.decode.specs.declared.FrameLen.the-variants.{Bytes, Refused as NoLength}
-use Rattle.decode.specs.Decode.{headerAt, frameLenOf, framed, frameUnder, onHeader, decoded}
+use Rattle.decode.specs.Decode.{headerAt, framed, frameUnder, onHeader, decoded}
+use Rattle.place.specs.declared.Stop.{Stop}
+use Rattle.place.specs.declared.Stop.the-variants.{End, Bad, NoSeal, TooSmall}
 use Rattle.place.specs.declared.Stand.{Stand}
-use Rattle.place.specs.declared.Stand.the-variants.{Found as StandsFound, Skipped, Clean as StandsClean, Damaged as StandsDamaged, Unsealed as StandsUnsealed}
-use Rattle.place.specs.Stands.{redeliverable, underSeal, settled, judgedBy, judged, stride, Shape, Short, Blank, BadHeader, Overlong, Whole, headed, shapeOf, cleanOr, verdict, stands}
-use Rattle.recovery.specs.declared.look.Seen.the-variants.{Stands, TooSmall}
+use Rattle.place.specs.declared.Stand.the-variants.{Met, Passed, Over}
+use Rattle.place.specs.Stands.{settled, judgedBy, judged, Shape, Short, Blank, BadHeader, Overlong, Whole, headed, shapeOf, verdict, stands}
+use Rattle.place.specs.Walk.{Walk, walk, Step, meets, stops, firstStep, stepOffsets}
+use Rattle.place.proofs.Cases.{settled-case}
+use Rattle.place.proofs.Walks.{each-walk}
 use Rattle.recovery.specs.declared.next.Recovery.{Recovery}
 use Rattle.recovery.specs.declared.next.Found.{Found as Record}
 use Rattle.recovery.specs.declared.next.Answer.{Answer}
 use Rattle.recovery.specs.declared.next.Answer.the-variants.{Found, Ended, Refused}
 use Rattle.recovery.specs.declared.next.Stepped.{Stepped}
-use Rattle.recovery.specs.declared.next.Outcome.{Outcome}
-use Rattle.recovery.specs.declared.next.Outcome.the-variants.{Met, Passed, Over}
-use Rattle.recovery.specs.Reads.{capacityOf, Read, laid, further, headerSize, wanted, made, seenBy}
-use Rattle.recovery.specs.Next.{outcomeOf, Walk, onward, walkFrom, reach, Done, stepped, finished, ran, isOpen, opened, step, NextStep, partAt}
+use Rattle.recovery.specs.Reads.{capacityOf, Read, laid, further, headerSize, wanted, made, seenBy, paged, readsAt, readsAll}
+use Rattle.recovery.specs.Next.{lastAnswer, arrived, walkFrom, pageAfter, Before, looks, says, before, unless, stepIn, step, NextStep, partAt}
 use Rattle.recovery.proofs.Fronts.{capped, front-read}
-use Rattle.recovery.proofs.Near.{laid-long, laid-append}
+use Rattle.recovery.proofs.Near.{paged-steady, laid-long, laid-append}
+use Rattle.finish.proofs.Steps.{notFound, IsBefore, is-before}
 use Rattle.claim.proofs.Said.{saidIn}
 
 -- a part of a list's first n bytes is that part of the list
@@ -66,21 +63,12 @@ part-same page region o n i k h m j e =
 
 -- a record that stands there has its payload within its first m bytes
 abbrev Inner : ℕ → Stand → Type 0
-Inner m (StandsFound x) = x .payload .place + x .payload .len ≤ m
-Inner m (Skipped n) = Unit {0}
-Inner m StandsClean = Unit {0}
-Inner m (StandsDamaged e) = Unit {0}
-Inner m StandsUnsealed = Unit {0}
+Inner m (Met x) = x .payload .place + x .payload .len ≤ m
+Inner m (Passed n) = Unit {0}
+Inner m (Over e) = Unit {0}
 
 inner-settled : (a : ℕ) (f : FrameOf) (s : List ℕ) → f .payload .place + f .payload .len ≤ length s → Inner (length s) (settled a f s)
-unfolding settled
-inner-settled a f s h =
-    cond-case (Inner (length s)) (sealHolds (f .«frame_crc») (drop (length s - a) s)) (λ _. seal (f .decoded))
-    (λ _. cond-case (Inner (length s)) (redeliverable (f .decoded) && erased (drop (f .«frame_len») s)) (λ _. tt) (λ _. tt))
-  where
-    seal : (d : Decoded) → Inner (length s) (underSeal d f (length s))
-    seal (Known r) = h
-    seal (UnknownKind k) = tt
+inner-settled a f s h = settled-case a (Inner (length s)) f s (λ x. h) tt (λ e. tt) tt
 
 inner-under : (a : ℕ) (s : List ℕ) (v : VerifiedHeader) → Inner (length s) (judgedBy a s (frameUnder v s))
 unfolding frameUnder
@@ -108,44 +96,44 @@ Paged region page (Found f) = partAt page (f .«record» .payload .place) (f .«
 Paged region page Ended = Unit {0}
 Paged region page (Refused e) = Unit {0}
 
-module _ (s : Recovery) (region : List ℕ) where
-  -- the same of what a look at o comes to
-  abbrev Holds : ℕ → List ℕ → Outcome → Type 0
-  Holds o page z = Paged region page (stepped s o z .answer)
+module _ (region : List ℕ) where
+  -- the same of what an offset comes to, and of a step
+  abbrev Holds : ℕ → List ℕ → Stand → Type 0
+  Holds o page (Met x) = Paged region page (Found (record { offset = o; «record» = x }))
+  Holds o page (Passed n) = Unit {0}
+  Holds o page (Over e) = Unit {0}
 
-  holds-clean : (o : ℕ) (page : List ℕ) (e : DecodeError) (b : Bool) → Holds o page (outcomeOf (Stands (cleanOr e b)))
-  holds-clean o page e true = tt
-  holds-clean o page e false = tt
+  abbrev HoldsStep : List ℕ → Step → Type 0
+  HoldsStep page (meets o x) = Holds o page (Met x)
+  HoldsStep page (stops o e) = Unit {0}
 
   holds-same : (o : ℕ) (page : List ℕ) (n : ℕ) (x : Stand) → Inner n x → n ≤ length page → n ≤ length (drop o region) → take n page ≡ take n (drop o region)
-      → Holds o page (outcomeOf (Stands x))
+      → Holds o page x
   unfolding saidIn
-  holds-same o page n (StandsFound x) i m j e = part-same page region o n (x .payload .place) (x .payload .len) i m j e
-  holds-same o page n (Skipped k) i m j e = tt
-  holds-same o page n StandsClean i m j e = tt
-  holds-same o page n (StandsDamaged d) i m j e = tt
-  holds-same o page n StandsUnsealed i m j e = tt
+  holds-same o page n (Met x) i m j e = part-same page region o n (x .payload .place) (x .payload .len) i m j e
+  holds-same o page n (Passed k) i m j e = tt
+  holds-same o page n (Over d) i m j e = tt
 
   -- the page does not matter where no record stands
-  holds-seen : (o cap : ℕ) (page : List ℕ) (reads : List Read) (x : Stand) → Holds o page (outcomeOf (Stands x)) → Holds o page (outcomeOf (seenBy cap reads x))
+  holds-seen : (o cap : ℕ) (page : List ℕ) (reads : List Read) (x : Stand) → Holds o page x → Holds o page (seenBy cap reads x)
   unfolding seenBy
   holds-seen o cap page [] x h = h
-  holds-seen o cap page (y ∷ ys) x h = cond-case (λ q. Holds o page (outcomeOf q)) (ltb cap (y .size)) (λ _. tt) (λ _. holds-seen o cap page ys x h)
+  holds-seen o cap page (y ∷ ys) x h = cond-case (Holds o page) (ltb cap (y .size)) (λ _. tt) (λ _. holds-seen o cap page ys x h)
 
   -- the first read of several, made where it fits the capacity
   holds-read : (o cap : ℕ) (page : List ℕ) (y : Read) (ys : List Read) (x : Stand)
-      → (y .size ≤ cap → Holds o (laid region (made cap ys) (laidOver page (readAt region (y .from) (y .size)))) (outcomeOf (seenBy cap ys x)))
-      → Holds o (laid region (made cap (y ∷ ys)) page) (outcomeOf (seenBy cap (y ∷ ys) x))
+      → (y .size ≤ cap → Holds o (laid region (made cap ys) (laidOver page (readAt region (y .from) (y .size)))) (seenBy cap ys x))
+      → Holds o (laid region (made cap (y ∷ ys)) page) (seenBy cap (y ∷ ys) x)
   unfolding laid made seenBy
   holds-read o cap page y ys x f = go (ltb cap (y .size)) (λ e. f (ltb-false cap (y .size) e)) where
-    go : (b : Bool) → (b ≡ false → Holds o (laid region (made cap ys) (laidOver page (readAt region (y .from) (y .size)))) (outcomeOf (seenBy cap ys x)))
-        → Holds o (laid region (cond b [] (y ∷ made cap ys)) page) (outcomeOf (cond b (TooSmall (y .size)) (seenBy cap ys x)))
+    go : (b : Bool) → (b ≡ false → Holds o (laid region (made cap ys) (laidOver page (readAt region (y .from) (y .size)))) (seenBy cap ys x))
+        → Holds o (laid region (cond b [] (y ∷ made cap ys)) page) (cond b (Over (TooSmall (y .size))) (seenBy cap ys x))
     go true g = tt
     go false g = g refl
 
   -- the last read, of a record's n bytes
   holds-last : (a o cap : ℕ) (page : List ℕ) (n : ℕ) → cap ≤ length page → o + n ≤ length region → n ≤ length (drop o region)
-      → Holds o (laid region (made cap (record { from = o; size = n } ∷ [])) page) (outcomeOf (seenBy cap (record { from = o; size = n } ∷ []) (judged a (take n (drop o region)))))
+      → Holds o (laid region (made cap (record { from = o; size = n } ∷ [])) page) (seenBy cap (record { from = o; size = n } ∷ []) (judged a (take n (drop o region))))
   unfolding laid made seenBy
   holds-last a o cap page n c w m =
       holds-read o cap page (record { from = o; size = n }) [] (judged a (take n (drop o region)))
@@ -165,10 +153,10 @@ module _ (s : Recovery) (region : List ℕ) where
       reads x = cond (eqb (length tail) 0) [] (record { from = o; size = headerSize r (length tail) } ∷ further cap o tail x)
 
       abbrev Shown : Shape → Type 0
-      Shown x = Holds o (laid region (made cap (reads x)) page) (outcomeOf (seenBy cap (reads x) (verdict a tail x)))
+      Shown x = Holds o (laid region (made cap (reads x)) page) (seenBy cap (reads x) (verdict a tail x))
 
-      shown-damaged : (x : Shape) (e : DecodeError) → verdict a tail x ≡ StandsDamaged e → Shown x
-      shown-damaged x e i = holds-seen o cap (laid region (made cap (reads x)) page) (reads x) (verdict a tail x) (rw i tt)
+      shown-over : (x : Shape) (e : Stop) → verdict a tail x ≡ Over e → Shown x
+      shown-over x e i = holds-seen o cap (laid region (made cap (reads x)) page) (reads x) (verdict a tail x) (rw i tt)
 
       shown-whole : (n : ℕ) → 12 ≤ length tail → n ≤ length tail → Shown (Whole n)
       unfolding further
@@ -176,7 +164,7 @@ module _ (s : Recovery) (region : List ℕ) where
           let x : Stand = judged a (take n tail) in
           let y : Read = record { from = o; size = headerSize r (length tail) } in
           let page₁ : List ℕ = laidOver page (readAt region o (headerSize r (length tail))) in
-          cond-case (λ q. Holds o (laid region (made cap q) page) (outcomeOf (seenBy cap q x))) (eqb (length tail) 0)
+          cond-case (λ q. Holds o (laid region (made cap q) page) (seenBy cap q x)) (eqb (length tail) 0)
           (λ e. absurd (omega (arith, eqb-true (length tail) 0 e)))
           (λ _.
           holds-read o cap page y (record { from = o; size = n } ∷ []) x
@@ -185,57 +173,60 @@ module _ (s : Recovery) (region : List ℕ) where
           (omega (arith, length-drop o region))
           m))
 
-      holds-look : Holds o (laid region (made cap (wanted a r cap o tail)) page) (outcomeOf (seenBy cap (wanted a r cap o tail) (stands a tail)))
-      unfolding stands shapeOf wanted
+      holds-look : Holds o (laid region (readsAt a r cap region o) page) (paged a r cap o tail)
+      unfolding stands shapeOf wanted readsAt paged
       holds-look =
-          cond-case Shown (ltb (length tail) 12) (λ _. holds-seen o cap (laid region (made cap (reads Short)) page) (reads Short) (cleanOr _ (erased tail)) (holds-clean o _ _ (erased tail)))
-          (λ l. cond-case Shown (erased (take 12 tail))
-          (λ _. holds-seen o cap (laid region (made cap (reads Blank)) page) (reads Blank) (cleanOr _ (erased tail)) (holds-clean o _ _ (erased tail)))
-          (λ _. go (frameLenOf (take 12 tail)) (ltb-false (length tail) 12 l)))
+          cond-case Shown (ltb (length tail) 12) (λ _. shown-over Short _ refl)
+          (λ l. cond-case Shown (erased (take 12 tail)) (λ _. shown-over Blank _ refl)
+          (λ _. go (headerAt (take 12 tail)) (ltb-false (length tail) 12 l)))
         where
-          go : (d : FrameLen) → 12 ≤ length tail → Shown (headed a (length tail) d)
-          go (NoLength e) l = shown-damaged (BadHeader e) e refl
-          go (Bytes n) l =
-              cond-case Shown (ltb (length tail) (stride a n)) (λ _. shown-damaged Overlong _ refl)
-              (λ e. shown-whole (stride a n) l (ltb-false (length tail) (stride a n) e))
+          go : (d : Header) → 12 ≤ length tail → Shown (headed a (length tail) d)
+          go (NoHeader e) l = shown-over (BadHeader e) _ refl
+          go (Verified v) l =
+              let n : ℕ = recordLen a (v .«payload_len») in
+              cond-case Shown (ltb (length tail) n) (λ _. shown-over Overlong _ refl) (λ e. shown-whole n l (ltb-false (length tail) n e))
 
     -- along a walk: the reads of what was skipped come first
-    holds-walk : (n o : ℕ) (page : List ℕ) → cap ≤ length page
-        → Holds (walkFrom n a r cap region o .at) (laid region (walkFrom n a r cap region o .reads) page) (walkFrom n a r cap region o .outcome)
-    unfolding walkFrom
-    holds-walk zero o page c = tt
-    holds-walk (suc n) o page c =
-        go (outcomeOf (seenBy cap (wanted a r cap o (drop o region)) (stands a (drop o region)))) (holds-look o page c) (holds-walk n)
-      where
-        go : (z : Outcome) → Holds o (laid region (made cap (wanted a r cap o (drop o region))) page) z
-            → ((o′ : ℕ) (page′ : List ℕ) → cap ≤ length page′
-            → Holds (walkFrom n a r cap region o′ .at) (laid region (walkFrom n a r cap region o′ .reads) page′) (walkFrom n a r cap region o′ .outcome))
-            → Holds (onward (made cap (wanted a r cap o (drop o region))) z o (walkFrom n a r cap region) .at)
-            (laid region (onward (made cap (wanted a r cap o (drop o region))) z o (walkFrom n a r cap region) .reads) page)
-            (onward (made cap (wanted a r cap o (drop o region))) z o (walkFrom n a r cap region) .outcome)
-        go (Passed k) i f =
-            let first : List Read = made cap (wanted a r cap o (drop o region)) in
-            let w : Walk = walkFrom n a r cap region (o + k) in
-            subst (λ q. Holds (w .at) q (w .outcome)) (sym (laid-append region first (w .reads) page))
-            (f (o + k) (laid region first page) (omega (arith, laid-long region first page)))
-        go (Met x) i f = i
-        go (Over x e) i f = i
+    holds-walk : 0 < a → (o : ℕ) (page : List ℕ) → cap ≤ length page
+        → HoldsStep (laid region (readsAll a r cap region (stepOffsets (walk (paged a r cap) region o .way) (walk (paged a r cap) region o .at))) page) (firstStep (walk (paged a r cap) region o))
+    unfolding readsAll laid
+    holds-walk h =
+        each-walk (paged a r cap) (paged-steady a r cap h) region
+        (λ o w. (page : List ℕ) → cap ≤ length page → HoldsStep (laid region (readsAll a r cap region (stepOffsets (w .way) (w .at))) page) (firstStep w))
+        (λ o x e _ _ _ page c.
+        subst (λ q. Holds o q (Met x)) (sym (laid-append region (readsAt a r cap region o) [] page)) (subst (Holds o (laid region (readsAt a r cap region o) page)) e (holds-look o page c)))
+        (λ o n _ _ _ f page c.
+        let w : Walk = walk (paged a r cap) region (o + n) in
+        subst (λ q. HoldsStep q (firstStep w)) (sym (laid-append region (readsAt a r cap region o) (readsAll a r cap region (stepOffsets (w .way) (w .at))) page))
+        (f (laid region (readsAt a r cap region o) page) (omega (arith, c, laid-long region (readsAt a r cap region o) page))))
+        (λ o e _ page c. tt)
 
-  module _ (page : List ℕ) where
-    paged-ran : Paged region (ran s region page .page) (ran s region page .out .answer)
-    unfolding ran finished reach
-    paged-ran =
-        let r : ℕ = s .geometry .«read_size» in
-        let c = capped (length page) r _ refl in
-        holds-walk (s .geometry .«program_size») r (capacityOf (length page) r) (suc (length region)) (s .offset) page (omega (arith, c .all, c .most))
+module _ (s : Recovery) (region page : List ℕ) where
+  paged-arrived : (z : Step) (q : List ℕ) → HoldsStep region q z → Paged region q (arrived s z .answer)
+  paged-arrived (meets o x) q k = k
+  paged-arrived (stops o e) q k = go e where
+    go : (d : Stop) → Paged region q (lastAnswer d)
+    go End = tt
+    go (Bad x) = tt
+    go NoSeal = tt
+    go (TooSmall n) = tt
 
-    paged-step : Paged region (step s region page .page) (step s region page .out .answer)
-    unfolding step opened
-    paged-step =
-        let P : Done → Type 0 = λ d. Paged region (d .page) (d .out .answer) in
-        cond-case P (not (isOpen (s .ending))) (λ _. tt)
-        (λ _. cond-case P (not (allowed (s .geometry .bytes) (s .geometry .«program_size») (s .geometry .«read_size»))) (λ _. tt)
-        (λ _. cond-case P (not (eqb (length region) (s .geometry .bytes))) (λ _. tt) (λ _. paged-ran)))
+  paged-says : (z : Answer) → notFound z → Paged region page z
+  paged-says (Found f) k = absurd k
+  paged-says Ended k = tt
+  paged-says (Refused e) k = tt
+
+  paged-step : Paged region (step s region page .page) (step s region page .out .answer)
+  unfolding step walkFrom pageAfter
+  paged-step = go (before s region) (is-before s region) where
+    go : (b : Before) → IsBefore s region b
+        → Paged region (unless b page (stepIn s region page (walkFrom s region (length page))) .page) (unless b page (stepIn s region page (walkFrom s region (length page))) .out .answer)
+    go (says x) k = paged-says (x .answer) k
+    go looks k =
+        let g = s .geometry in
+        let c = capped (length page) (g .«read_size») _ refl in
+        paged-arrived (firstStep (walkFrom s region (length page))) (pageAfter s region (stepOffsets (walkFrom s region (length page) .way) (walkFrom s region (length page) .at)) page)
+        (holds-walk region (g .«program_size») (g .«read_size») (capacityOf (length page) (g .«read_size»)) (limits (g .bytes) (g .«program_size») (g .«read_size») (k .units) .program-least) (s .offset) page (omega (arith, c .all, c .most)))
 
 -- The payload of a record that a step finds is that part of the page which its place and length give, with the bytes that stand in the region.
 pub payload-paged : (s : Recovery) (region page : List ℕ) (out : Stepped) (page′ : List ℕ) → NextStep s region page out page′ → (f : Record) → out .answer ≡ Found f

@@ -1,36 +1,32 @@
 -- What a caller reads step by step, with a page of its own lent to each step, is what a run with one page finds.
 -- Assumes nothing.
-use mathlib.Core.Path.{_≡_, refl, sym, ap, ap₂, _∙_, subst}
-use mathlib.Core.Bool.{Bool, true, false, cond, not}
-use mathlib.Core.List.{List, _∷_}
+use mathlib.Core.Path.{_≡_, refl, sym, ap, _∙_, subst}
+use mathlib.Core.Bool.{true, not}
+use mathlib.Core.List.{List, [], _∷_}
 use Prim.Native.Nat.{ℕ, zero, suc, _+_, _-_, _<_, _≤_}
 use native.Mathlib.Omega.{arith}
 use lib.Dec.{eqb}
-use lib.ListN.{length, drop}
-use lib.Seq.{getD-drop}
+use lib.ListN.{length}
 use Rattle.core.proofs.Choice.{cond-case}
 use Rattle.core.specs.declared.error.Refusal.{Refusal}
 use Rattle.storage.specs.declared.geometry.Geometry.{Geometry}
 use Rattle.storage.specs.Settings.{allowed, programUnit, readUnit, Limits}
 use Rattle.storage.proofs.Units.{limits}
 use Rattle.roundtrip.specs.Typed.{AllBytes}
-use Rattle.place.specs.Stands.{stands}
-use Rattle.recovery.specs.declared.look.Seen.the-variants.{Stands}
-use Rattle.recovery.specs.declared.next.Ending.{Ending}
+use Rattle.place.specs.Walk.{plain, walk, Step, meets, stops as stopsAt, firstStep}
 use Rattle.recovery.specs.declared.next.Stepped.{Stepped}
 use Rattle.recovery.specs.declared.next.Recovery.{Recovery}
 use Rattle.recovery.specs.declared.next.Found.{Found as Record}
 use Rattle.recovery.specs.declared.next.Answer.{Answer}
 use Rattle.recovery.specs.declared.next.Answer.the-variants.{Found, Ended, Refused}
-use Rattle.recovery.specs.declared.next.Outcome.{Outcome}
-use Rattle.recovery.specs.declared.next.Outcome.the-variants.{Met, Passed, Over}
-use Rattle.recovery.specs.Reads.{capacityOf, made, wanted, seenBy}
-use Rattle.recovery.specs.Next.{outcomeOf, Walk, onward, walkFrom, reach, Done, stepped, finished, ran, isOpen, opened, step, NextStep, fresh}
+use Rattle.recovery.specs.Reads.{capacityOf, paged}
+use Rattle.recovery.specs.Next.{arrived, walkFrom, pageAfter, isOpen, Before, looks, says, before, Done, unless, stepIn, step, NextStep, fresh}
 use Rattle.recovery.proofs.Runs.{next-step}
-use Rattle.recovery.proofs.Pages.{page-never-matters, capacity-large}
+use Rattle.recovery.proofs.Pages.{capacity-large}
 use Rattle.recovery.proofs.Near.{laid-long}
-use Rattle.finish.specs.Finish.{passes, foundsTo, founds}
-use Rattle.finish.proofs.Steps.{found-less}
+use Rattle.finish.specs.Finish.{founds}
+use Rattle.finish.proofs.Steps.{Rests, After, run-step, found-less}
+use Rattle.finish.proofs.Walks.{page-free}
 use Rattle.claim.specs.Saying.{Said}
 use Rattle.claim.specs.Events.{Large}
 use Rattle.claim.specs.Promised.{later, Reads, finds, ends, stops}
@@ -39,38 +35,24 @@ use Rattle.claim.proofs.Said.{saidIn, allSaidIn}
 use Rattle.claim.proofs.Paged.{payload-paged}
 use Rattle.claim.proofs.Invariant.{both-units}
 
--- two walks that differ at most in their reads
-record Same (w v : Walk) : Type 0 where
-  at : w .at ≡ v .at
-  outcome : w .outcome ≡ v .outcome
-
--- two results that differ at most in their pages
-record Alike (x y : Done) : Type 0 where
-  out : x .out ≡ y .out
-
-alike-cond : (c : Bool) (x y z w : Done) → Alike x y → Alike z w → Alike (cond c x z) (cond c y w)
-alike-cond true x y z w h i = h
-alike-cond false x y z w h i = i
-
 -- a step keeps the settings and the page's length
 record Keeps (s : Recovery) (p : List ℕ) (d : Done) : Type 0 where
   settings : d .out .state .geometry ≡ s .geometry
   long : length (d .page) ≡ length p
 
-stepped-geometry : (s : Recovery) (o : ℕ) (z : Outcome) → stepped s o z .state .geometry ≡ s .geometry
-stepped-geometry s o (Met x) = refl
-stepped-geometry s o (Passed x) = refl
-stepped-geometry s o (Over x e) = refl
+arrived-geometry : (s : Recovery) (z : Step) → arrived s z .state .geometry ≡ s .geometry
+arrived-geometry s (meets o x) = refl
+arrived-geometry s (stopsAt o e) = refl
 
 step-keeps : (s : Recovery) (region p : List ℕ) → Keeps s p (step s region p)
-unfolding step opened ran finished reach
+unfolding step before pageAfter
 step-keeps s region p =
     let g : Geometry = s .geometry in
-    let w : Walk = walkFrom (suc (length region)) (g .«program_size») (g .«read_size») (capacityOf (length p) (g .«read_size»)) region (s .offset) in
-    cond-case (Keeps s p) (not (isOpen (s .ending))) (λ _. record { settings = refl; long = refl })
-    (λ _. cond-case (Keeps s p) (not (allowed (g .bytes) (g .«program_size») (g .«read_size»))) (λ _. record { settings = refl; long = refl })
-    (λ _. cond-case (Keeps s p) (not (eqb (length region) (g .bytes))) (λ _. record { settings = refl; long = refl })
-    (λ _. record { settings = stepped-geometry s (w .at) (w .outcome); long = laid-long region (w .reads) p })))
+    let P : Before → Type 0 = λ b. Keeps s p (unless b p (stepIn s region p (walkFrom s region (length p)))) in
+    cond-case P (not (isOpen (s .ending))) (λ _. record { settings = refl; long = refl })
+    (λ _. cond-case P (not (allowed (g .bytes) (g .«program_size») (g .«read_size»))) (λ _. record { settings = refl; long = refl })
+    (λ _. cond-case P (not (eqb (length region) (g .bytes))) (λ _. record { settings = refl; long = refl })
+    (λ _. record { settings = arrived-geometry s (firstStep (walkFrom s region (length p))); long = laid-long region _ p })))
 
 -- two promises of one step settle the same answer, state and page
 module _ (region : List ℕ) (s : Recovery) (p : List ℕ) (x y : Stepped) (q t : List ℕ) (k : NextStep s region p x q) (l : NextStep s region p y t) where
@@ -123,66 +105,57 @@ module _ (region : List ℕ) (b : AllBytes region) (g : Geometry) (ok : allowed 
   units : (programUnit a ≡ true) × (readUnit r ≡ true)
   units = both-units (g .bytes) a r ok
 
-  seen : (cap o : ℕ) → 66048 ≤ cap → seenBy cap (wanted a r cap o (drop o region)) (stands a (drop o region)) ≡ Stands (stands a (drop o region))
-  seen cap o c = page-never-matters a r cap o (drop o region) (units .0) (k .read-least) (k .read-most) (λ i. rw (getD-drop o region i 0) (b (o + i))) c
+  -- large pages give the same walk
+  same : (o : ℕ) (p q : List ℕ) → Large p → Large q → walk (paged a r (capacityOf (length p) r)) region o ≡ walk (paged a r (capacityOf (length q) r)) region o
+  same o p q hp hq = free p hp ∙ sym (free q hq) where
+    free : (p : List ℕ) → Large p → walk (paged a r (capacityOf (length p) r)) region o ≡ walk (plain a) region o
+    free p hp = page-free a r (capacityOf (length p) r) o region (units .0) (k .read-least) (k .read-most) b (capacity-large (length p) r (units .1) (omega (arith, hp)))
 
-  same : (c d : ℕ) → 66048 ≤ c → 66048 ≤ d → (n o : ℕ) → Same (walkFrom n a r c region o) (walkFrom n a r d region o)
-  unfolding walkFrom
-  same c d hc hd zero o = record { at = refl; outcome = refl }
-  same c d hc hd (suc n) o = rw (seen c o hc, seen d o hd) (go (outcomeOf (Stands (stands a (drop o region)))) (same c d hc hd n)) where
-    go : (z : Outcome) → ((p : ℕ) → Same (walkFrom n a r c region p) (walkFrom n a r d region p))
-        → Same (onward (made c (wanted a r c o (drop o region))) z o (walkFrom n a r c region)) (onward (made d (wanted a r d o (drop o region))) z o (walkFrom n a r d region))
-    go (Passed l) f = record { at = f (o + l) .at; outcome = f (o + l) .outcome }
-    go (Met x) f = record { at = refl; outcome = refl }
-    go (Over x e) f = record { at = refl; outcome = refl }
+  -- so they give the same answer and the same state
+  alike : (s : Recovery) (p q : List ℕ) → s .geometry ≡ g → Large p → Large q → step s region p .out ≡ step s region q .out
+  unfolding step walkFrom
+  alike s p q e hp hq = go (before s region) where
+    walks : walkFrom s region (length p) ≡ walkFrom s region (length q)
+    walks = rw e (same (s .offset) p q hp hq)
 
-  -- large pages give the same answer and the same state
-  alike : (o : ℕ) (e : Ending) (p q : List ℕ) → Large p → Large q
-      → Alike (step (record { geometry = g; offset = o; ending = e }) region p) (step (record { geometry = g; offset = o; ending = e }) region q)
-  unfolding step opened ran finished reach
-  alike o e p q hp hq =
-      let s : Recovery = record { geometry = g; offset = o; ending = e } in
-      let w : Same _ _ = same (capacityOf (length p) r) (capacityOf (length q) r) (capacity-large (length p) r (units .1) (omega (arith, hp))) (capacity-large (length q) r (units .1) (omega (arith, hq))) (suc (length region)) o in
-      alike-cond (not (isOpen e)) _ _ _ _ (record { out = refl })
-      (alike-cond (not (allowed (g .bytes) a r)) _ _ _ _ (record { out = refl })
-      (alike-cond (not (eqb (length region) (g .bytes))) _ _ _ _ (record { out = refl })
-      (record { out = ap₂ (λ i z. stepped s i z) (w .at) (w .outcome) })))
+    go : (x : Before) → unless x p (stepIn s region p (walkFrom s region (length p))) .out ≡ unless x q (stepIn s region q (walkFrom s region (length q))) .out
+    go (says x) = refl
+    go looks = ap (λ w. arrived s (firstStep w)) walks
 
-  alike-at : (s : Recovery) (p q : List ℕ) → s .geometry ≡ g → Large p → Large q → step s region p .out ≡ step s region q .out
-  alike-at s p q e hp hq =
-      subst (λ h. Alike (step (record { geometry = h; offset = s .offset; ending = s .ending }) region p) (step (record { geometry = h; offset = s .offset; ending = s .ending }) region q)) (sym e)
-      (alike (s .offset) (s .ending) p q hp hq) .out
-
-  -- what the steps of a caller read is what steps with one page find
+  -- what the steps of a caller read is what a run with one page finds
   reads-found : (n : ℕ) (s : Recovery) (pages : ℕ → List ℕ) (page : List ℕ) → s .geometry ≡ g → ((i : ℕ) → Large (pages i)) → Large page → length region - s .offset < n
-      → Reads region s pages (allSaidIn region (foundsTo n region s page))
-  unfolding foundsTo allSaidIn saidIn
+      → Reads region s pages (allSaidIn region (founds s region page))
+  unfolding allSaidIn saidIn
   reads-found zero s pages page e hs h l = absurd (omega arith)
   reads-found (suc n) s pages page e hs h l =
       let x : Done = step s region (pages 0) in
       let y : Done = step s region page in
-      let same-out : x .out ≡ y .out = alike-at s (pages 0) page e (hs 0) h in
-      go (y .out .answer) (ap (λ z. z .answer) same-out)
+      let same-out : x .out ≡ y .out = alike s (pages 0) page e (hs 0) h in
+      go (y .out .answer) (ap (λ z. z .answer) same-out) (run-step s region page)
       (λ f i.
-      rw (← ap (λ z. z .state) same-out)
+      subst (λ u. Reads region (x .out .state) (later pages) (allSaidIn region (founds u region (y .page)))) (ap (λ z. z .state) same-out)
       (reads-found n (x .out .state) (later pages) (y .page) (step-keeps s region (pages 0) .settings ∙ e) (λ j. hs _)
       (omega (arith, step-keeps s region page .long, h))
       (omega (arith, found-less region (pages 0) s (x .out) (x .page) (next-step refl) f i))))
     where
-      go : (z : Answer) → step s region (pages 0) .out .answer ≡ z
+      -- nothing is found at this step
+      none : Rests s region page (step s region page) → Reads region s pages (allSaidIn region []) → Reads region s pages (allSaidIn region (founds s region page))
+      none t u = subst (λ fs. Reads region s pages (allSaidIn region fs)) (sym (t .shown)) u
+
+      go : (z : Answer) → step s region (pages 0) .out .answer ≡ z → After s region page z (step s region page)
           → ((f : Record) → step s region (pages 0) .out .answer ≡ Found f
-          → Reads region (step s region (pages 0) .out .state) (later pages) (allSaidIn region (foundsTo n region (step s region page .out .state) (step s region page .page))))
-          → Reads region s pages (allSaidIn region (passes z (step s region page) (foundsTo n region)))
-      go (Found f) i rest =
+          → Reads region (step s region (pages 0) .out .state) (later pages) (allSaidIn region (founds (step s region page .out .state) region (step s region page .page))))
+          → Reads region s pages (allSaidIn region (founds s region page))
+      go (Found f) i t rest =
           let x : Done = step s region (pages 0) in
-          finds s pages (x .out) (x .page) f _ _ (next-step refl) i (sym (payload-paged s region (pages 0) (x .out) (x .page) (next-step refl) f i)) (rest f i)
-      go Ended i rest = ends s pages (step s region (pages 0) .out) (step s region (pages 0) .page) (next-step refl) i
-      go (Refused u) i rest = stops s pages (step s region (pages 0) .out) (step s region (pages 0) .page) u (next-step refl) i
+          subst (λ fs. Reads region s pages (allSaidIn region fs)) (sym (t .shown))
+          (finds s pages (x .out) (x .page) f _ _ (next-step refl) i (sym (payload-paged s region (pages 0) (x .out) (x .page) (next-step refl) f i)) (rest f i))
+      go Ended i t rest = none t (ends s pages (step s region (pages 0) .out) (step s region (pages 0) .page) (next-step refl) i)
+      go (Refused u) i t rest = none t (stops s pages (step s region (pages 0) .out) (step s region (pages 0) .page) u (next-step refl) i)
 
   -- with large pages, whatever they hold, a caller from offset 0 reads exactly what a run with one page finds
   pub reads-exactly : (pages : ℕ → List ℕ) → ((i : ℕ) → Large (pages i)) → (page : List ℕ) → Large page
       → Exactly (Reads region (fresh g) pages) (allSaidIn region (founds (fresh g) region page))
-  unfolding founds
   reads-exactly pages hs page h =
       let t = reads-found (suc (length region)) (fresh g) pages page refl hs h (omega arith) in
       record { has = t; only = λ xs u. reads-one region (fresh g) pages xs _ u t }

@@ -40,5 +40,5 @@ module _ (a r : ℕ) (region page : List ℕ) (h : length region ≤ 32768) (l :
   unfolding settings pagedLines
   page-unseen =
       cond-case (λ k. listedWith region k ≡ pagedWith region page k) (allowed (length region) a r)
-      (λ e. let w = run-covered (fresh units) region page refl e refl (covers e) in ap₂ linesOf (sym (w .finds)) (sym (w .ends)))
+      (λ e. let w = run-covered (fresh units) region page (record { still = refl; units = e; size = refl }) (covers e) in ap₂ linesOf (sym (w .finds)) (sym (w .ends)))
       (λ _. refl)

@@ -3,10 +3,10 @@
 use mathlib.Core.Path.{_≡_}
 use mathlib.Core.Bool.{true}
 use mathlib.Core.List.{List, [], _∷_, _++_}
-use Prim.Native.Nat.{ℕ, zero, suc, _+_, _-_, _*_, _^_, _≤_, _<_}
+use Prim.Native.Nat.{ℕ, _+_, _-_, _*_, _^_, _≤_, _<_}
 use native.Mathlib.Omega.{arith}
 use lib.Dec.{eqb, ltb}
-use lib.ListN.{length, take, drop, length-append, length-drop}
+use lib.ListN.{length, take, drop, length-append}
 use borrow.Author.Tests.{ltb-false}
 use Rattle.core.specs.declared.«record».RecordRef.{RecordRef}
 use Rattle.core.specs.declared.«record».RecordRef.the-variants.{RunStarted, EffectScheduled, EffectCompleted, EffectFailed, TimerScheduled, TimerFired, RunCompleted, RunFailed, VersionMarker}
@@ -14,15 +14,14 @@ use Rattle.core.specs.Kinds.{kindOf, seqOf}
 use Rattle.core.proofs.Choice.{cond-case}
 use Rattle.storage.specs.Settings.{allowed, settings}
 use Rattle.storage.proofs.Units.{limits}
+use Rattle.place.specs.Walk.{plain, Walk, walk}
+use Rattle.place.proofs.Walks.{plain-steady, each-walk}
 use Rattle.recovery.specs.declared.next.Ending.{Ending}
 use Rattle.recovery.specs.declared.next.Ending.the-variants.{Open, Clean, Damaged, Incomplete, Unsealed}
 use Rattle.recovery.specs.declared.next.Found.{Found}
 use Rattle.recovery.specs.declared.next.Stepped.{Stepped}
-use Rattle.recovery.specs.declared.next.Outcome.{Outcome}
-use Rattle.recovery.specs.declared.next.Outcome.the-variants.{Met, Passed, Over}
 use Rattle.recovery.specs.Next.{answerRefusal, fresh}
-use Rattle.recovery.proofs.Near.{Near, near-stands}
-use Rattle.finish.specs.Course.{Course, along, courseBy, plainly, walk, found, lastOf}
+use Rattle.finish.specs.Finish.{found, lastOf}
 use Rattle.text.specs.Text.{codes, decimal, placeOf}
 use Rattle.text.proofs.Digits.{decimal-length, decimal-most}
 use Rattle.text.proofs.Puts.{puts-whole}
@@ -80,43 +79,33 @@ end-most Unsealed x n b = last-most (codes "end,unsealed,") x n b (omega arith)
 end-most Incomplete x n b = omega arith
 end-most Open x n b = omega arith
 
--- what stands at an offset moves the walk on within the region
-near-plainly : (region : List ℕ) (a : ℕ) → 0 < a → (o : ℕ) → Near (length region - o) (plainly a region o)
-near-plainly region a h o = rw (length-drop o region) at (near-stands a (drop o region) h)
-
 -- the lines of a walk's records are at most three times as long as the bytes that it has before it
 module _ (region : List ℕ) (a : ℕ) (h : 0 < a) (l : length region ≤ 32768) where
-  abbrev linesFrom : ℕ → ℕ → ℕ
-  linesFrom n o = length (recordLines (found (courseBy (plainly a region) n o .passed)))
-
-  walk-room : (n o : ℕ) → linesFrom n o ≤ 3 * (length region - o)
-  unfolding courseBy recordLines
-  walk-room zero o = omega arith
-  walk-room (suc n) o = go (plainly a region o) (near-plainly region a h o) (walk-room n) where
-    go : (z : Outcome) → Near (length region - o) z → ((p : ℕ) → linesFrom n p ≤ 3 * (length region - p))
-        → length (recordLines (found (along z o (courseBy (plainly a region) n) .passed))) ≤ 3 * (length region - o)
-    go (Met x) w ih =
-        let f : Found = record { offset = o; «record» = x } in
-        let rest : List ℕ = recordLines (found (courseBy (plainly a region) n (o + x .len) .passed)) in
-        let one : length (recordLine f) ≤ 50 = line-most f (omega (arith, w .most, w .least)) in
-        let more : length rest ≤ 3 * (length region - (o + x .len)) = ih (o + x .len) in
-        omega (arith, one, more, w .most, w .least, length-append (recordLine f) rest)
-    go (Passed u) w ih = omega (arith, ih (o + u))
-    go (Over x e) w ih = omega arith
+  walk-room : (o : ℕ) → length (recordLines (found (walk (plain a) region o .way))) ≤ 3 * (length region - o)
+  unfolding recordLines
+  walk-room =
+      each-walk (plain a) (plain-steady a h) region (λ o w. length (recordLines (found (w .way))) ≤ 3 * (length region - o))
+      (λ o x _ least most more.
+      let f : Found = record { offset = o; «record» = x } in
+      let rest : List ℕ = recordLines (found (walk (plain a) region (o + x .len) .way)) in
+      let one : length (recordLine f) ≤ 50 = line-most f (omega (arith, most, least)) in
+      omega (arith, one, more, most, least, length-append (recordLine f) rest))
+      (λ o n _ _ _ more. omega (arith, more))
+      (λ o e _. omega arith)
 
 abbrev Fitting : List ℕ → Type 0
 Fitting x = length x ≤ 102400
 
 -- a region with its units
 module _ (a r : ℕ) (region : List ℕ) where
-  walk-fits : length region ≤ 32768 → allowed (length region) a r ≡ true → Fitting (walkLines (record { bytes = length region; «program_size» = a; «read_size» = r }) (walk a region 0))
-  unfolding linesOf walk
+  walk-fits : length region ≤ 32768 → allowed (length region) a r ≡ true → Fitting (walkLines (record { bytes = length region; «program_size» = a; «read_size» = r }) (walk (plain a) region 0))
+  unfolding linesOf
   walk-fits h e =
-      let w : Course = courseBy (plainly a region) (suc (length region)) 0 in
-      let fs : List Found = found (w .passed) in
+      let w : Walk = walk (plain a) region 0 in
+      let fs : List Found = found (w .way) in
       let last : Stepped = lastOf (fresh (record { bytes = length region; «program_size» = a; «read_size» = r })) w in
-      let i : length (recordLines fs) ≤ 3 * (length region - 0) = walk-room region a (limits (length region) a r e .program-least) h (suc (length region)) 0 in
-      omega (arith, i, end-most (w .ending) last (length fs) (recordBytes fs), length-append (recordLines fs) (endLine last (length fs) (recordBytes fs)))
+      let i : length (recordLines fs) ≤ 3 * (length region - 0) = walk-room region a (limits (length region) a r e .program-least) h 0 in
+      omega (arith, i, end-most (last .state .ending) last (length fs) (recordBytes fs), length-append (recordLines fs) (endLine last (length fs) (recordBytes fs)))
 
   region-fits : Fitting (listedRegion a r region)
   unfolding listedRegion settings

@@ -13,10 +13,11 @@ use Rattle.storage.specs.Settings.{settings}
 use Rattle.text.specs.declared.Number.{Number}
 use Rattle.text.specs.declared.Number.the-variants.{Value, Bad}
 use Rattle.text.specs.Text.{laidAt, endAt, placeOf, numberOf}
+use Rattle.place.specs.Walk.{plain, Walk, walk}
 use Rattle.recovery.specs.declared.next.Found.{Found}
 use Rattle.recovery.specs.declared.next.Stepped.{Stepped}
 use Rattle.recovery.specs.Next.{fresh}
-use Rattle.finish.specs.Course.{Course, walk, found, lastOf}
+use Rattle.finish.specs.Finish.{found, lastOf}
 use Rattle.lines.specs.Lines.{recordLine, endLine, refusedLine}
 use Rattle.report.specs.declared.input.Units.{Units}
 use Rattle.report.specs.declared.input.Units.the-variants.{Given, Bad as NoUnits}
@@ -35,13 +36,13 @@ unfoldable pub linesOf : List Found → Stepped → List ℕ
 linesOf xs last = recordLines xs ++ endLine last (length xs) (recordBytes xs)
 
 -- the lines of a walk from a region's start
-abbrev pub walkLines : Geometry → Course → List ℕ
-walkLines g w = linesOf (found (w .passed)) (lastOf (fresh g) w)
+abbrev pub walkLines : Geometry → Walk → List ℕ
+walkLines g w = linesOf (found (w .way)) (lastOf (fresh g) w)
 
 -- with the settings checked
 abbrev pub listedWith : List ℕ → Checked → List ℕ
 listedWith region (Refused e) = refusedLine
-listedWith region (Allowed g) = walkLines g (walk (g .«program_size») region 0)
+listedWith region (Allowed g) = walkLines g (walk (plain (g .«program_size»)) region 0)
 
 -- a region of at most 32,768 bytes
 unfoldable pub listedRegion : ℕ → ℕ → List ℕ → List ℕ
