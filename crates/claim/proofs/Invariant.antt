@@ -34,12 +34,13 @@ use Rattle.finish.proofs.Walks.{Goes, run-without-page}
 use Rattle.roundtrip.specs.Typed.{AllBytes, Typed}
 use Rattle.roundtrip.proofs.Lists.{bytes-append}
 use Rattle.roundtrip.proofs.Frames.{payload-size}
-use Rattle.journal.specs.declared.WriteAmplification.{WriteAmplification}
+use Rattle.counts.specs.declared.WriteAmplification.{WriteAmplification}
+use Rattle.counts.specs.Counts.{counts, unwritten as nothingWritten, plus}
 use Rattle.journal.specs.declared.Journal.{Journal}
 use Rattle.journal.specs.declared.Opening.{Opening}
 use Rattle.journal.specs.declared.Opening.the-variants.{Opened, Refused as NoJournal}
-use Rattle.journal.specs.Opening.{none as nothingWritten, ready, asGiven, openBy, opened}
-use Rattle.append.specs.Append.{counts, plus, unitOf, Left, keeps as refusing, checkFor, bodyFor, onDevice, stagedWith, begins, staged, underWay, isNext, confirmed, barred, moved, committed}
+use Rattle.journal.specs.Opening.{ready, asGiven, openBy, opened}
+use Rattle.append.specs.Append.{unitOf, Left, keeps as refusing, checkFor, bodyFor, onDevice, stagedWith, begins, staged, underWay, isNext, confirmed, barred, moved, committed}
 use Rattle.claim.specs.Cuts.{Cut}
 use Rattle.claim.specs.Saying.{Given, payloadFor, allGiven}
 use Rattle.claim.specs.Events.{Call, opening, stage, barrier, commit, Event, call, cut, cutIn, Held, none, holds, Machine, machine, refusedWith, Outcome, outcome, afterOpening, stepped, done, Torn, TornIn, lost, Way, nothing, under, wholeSeal, sealedIn, State, called, cutOff, step, run, Large, Stands, Allows, Valid, start}
