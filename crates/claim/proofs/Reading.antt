@@ -11,7 +11,8 @@ use lib.Seq.{getD-drop}
 use Rattle.core.proofs.Choice.{cond-case}
 use Rattle.core.specs.declared.error.Refusal.{Refusal}
 use Rattle.storage.specs.declared.geometry.Geometry.{Geometry}
-use Rattle.storage.specs.Settings.{allowed, programUnit, readUnit, Limits}
+use Rattle.storage.specs.Settings.{allowed, programUnit, readUnit}
+use Rattle.storage.specs.Inside.{Limits}
 use Rattle.storage.proofs.Units.{limits}
 use Rattle.roundtrip.specs.Typed.{AllBytes}
 use Rattle.place.specs.Stands.{stands}

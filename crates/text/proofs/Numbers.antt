@@ -12,7 +12,8 @@ use lib.Seq.{drop-cons}
 use borrow.Author.Tests.{le-leb, lt-leb, eq-eqb, ne-eqb, lt-ltb, leb-true, leb-false}
 use Rattle.text.specs.declared.Number.{Number}
 use Rattle.text.specs.declared.Number.the-variants.{Value, Bad}
-use Rattle.text.specs.Text.{isDigit, allDigits, wellFormed, valueFrom, most, withDigit, readFrom, numberOf}
+use Rattle.text.specs.Text.{isDigit, allDigits, wellFormed, valueFrom, most, numberOf}
+use Rattle.text.specs.Inside.{withDigit, readFrom}
 
 -- one more digit, by the tests that the code makes
 module _ (v b : ℕ) where

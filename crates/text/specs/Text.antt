@@ -80,14 +80,6 @@ valueOf s = valueFrom 0 s
 abbrev pub most : ℕ
 most = 18446744073709551615
 
--- v with one more digit b behind its own, where 64 bits hold it
-unfoldable pub withDigit : ℕ → ℕ → Number
-withDigit v b = cond (isDigit b && leb (v * 10 + (b - 48)) most) (Value (v * 10 + (b - 48))) Bad
-
--- the number that digits make behind those of v, where 64 bits hold it
-unfoldable pub readFrom : ℕ → List ℕ → Number
-readFrom v s = cond (allDigits s && leb (valueFrom v s) most) (Value (valueFrom v s)) Bad
-
 -- the number that a text is: well formed, and 64 bits hold it
 unfoldable pub numberOf : List ℕ → Number
 numberOf s = cond (wellFormed s && leb (valueOf s) most) (Value (valueOf s)) Bad
