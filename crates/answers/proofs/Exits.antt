@@ -10,7 +10,7 @@ use Rattle.place.specs.declared.Sealed.{Sealed}
 use Rattle.recovery.specs.declared.next.Ending.{Ending}
 use Rattle.recovery.specs.declared.next.Ending.the-variants.{Open, Clean, Damaged, Incomplete, Unsealed}
 use Rattle.recovery.specs.declared.next.Recovery.{Recovery}
-use Rattle.recovery.specs.declared.next.Found.{Found as RecoveryFound}
+use Rattle.recovery.specs.declared.next.Found.{Found as Record}
 use Rattle.recovery.specs.declared.next.Answer.{Answer}
 use Rattle.recovery.specs.declared.next.Answer.the-variants.{Found, Ended, Refused as NoRecord}
 use Rattle.scan.specs.declared.Scan.{Scan}
@@ -93,7 +93,7 @@ found-as o x y f = rw f
 
 -- steps; s is the state t as it was made into numbers
 module _ (t s : RecoveryState) (h : s ≡ t) (z : Answer) where
-  pub step-found : (x : RecoveryFound) (y : FoundRecord) → z ≡ Found x → y ≡ foundAs (x .offset) (x .«record»)
+  pub step-found : (x : Record) (y : FoundRecord) → z ≡ Found x → y ≡ foundAs (x .offset) (x .«record»)
       → record { state = s; refused = none; «is_found» = 1; found = y } ≡ stepTo t z
   step-found x y f g = rw (f, g, h)
 

@@ -48,11 +48,11 @@ unfoldable pub placeOf : ℕ → List ℕ → ℕ
 placeOf b [] = 0
 placeOf b (x ∷ xs) = cond (eqb x b) 0 (suc (placeOf b xs))
 
--- r is that place; that it lies within s is said in the two ways that a part `&s[..r]` asks for
-pub record Place (b : ℕ) (s : List ℕ) (r : ℕ) : Type 0 where
-  pub all : r ≡ placeOf b s
-  pub within : r ≤ length s
-  pub part : r ≡ length (take r s)
+-- n is that place; that it lies within s is said in the two ways that a part `&s[..n]` asks for
+pub record Place (b : ℕ) (s : List ℕ) (n : ℕ) : Type 0 where
+  pub all : n ≡ placeOf b s
+  pub within : n ≤ length s
+  pub part : n ≡ length (take n s)
 
 -- the byte is `0` to `9`
 abbrev pub isDigit : ℕ → Bool
