@@ -31,9 +31,9 @@ use Rattle.answers.specs.declared.stepped.FoundRecord.{FoundRecord}
 use Rattle.answers.specs.declared.stepped.RecoveryState.{RecoveryState}
 use Rattle.answers.specs.declared.stepped.ScanState.{ScanState}
 use Rattle.answers.specs.declared.opened.AdvancedJournal.{AdvancedJournal}
-use Rattle.numbers.specs.Refusing.{none, refusedBy}
+use Rattle.numbers.specs.Refusing.{notRefused, refusedBy}
 use Rattle.numbers.specs.Reading.{readAs}
-use Rattle.answers.specs.Stepping.{foundAs, nothing, endingNumber, endingOf, recoveryOf, stateOf, stateAfter, stepTo, scanStateOf, scanStateAfter, scanStepTo, findingBy}
+use Rattle.answers.specs.Stepping.{foundAs, nothing, endingNumber, endingOf, recoveryOf, stateOf, stateAfter, recoveryStepTo, scanStateOf, scanStateAfter, scanStepTo, findingBy}
 use Rattle.answers.specs.Appending.{noJournal, openedBy, advancedTo, progressBy}
 
 -- endings
@@ -94,21 +94,21 @@ found-as o x y f = rw f
 -- steps; s is the state t as it was made into numbers
 module _ (t s : RecoveryState) (h : s ≡ t) (z : Answer) where
   pub step-found : (x : Record) (y : FoundRecord) → z ≡ Found x → y ≡ foundAs (x .offset) (x .«record»)
-      → record { state = s; refused = none; «is_found» = 1; found = y } ≡ stepTo t z
+      → record { state = s; refused = notRefused; «is_found» = 1; found = y } ≡ recoveryStepTo t z
   step-found x y f g = rw (f, g, h)
 
-  pub step-ended : z ≡ Ended → record { state = s; refused = none; «is_found» = 0; found = nothing } ≡ stepTo t z
+  pub step-ended : z ≡ Ended → record { state = s; refused = notRefused; «is_found» = 0; found = nothing } ≡ recoveryStepTo t z
   step-ended f = rw (f, h)
 
-  pub step-refused : (e : Refusal) (y : Refused) → z ≡ NoRecord e → y ≡ refusedBy e → record { state = s; refused = y; «is_found» = 0; found = nothing } ≡ stepTo t z
+  pub step-refused : (e : Refusal) (y : Refused) → z ≡ NoRecord e → y ≡ refusedBy e → record { state = s; refused = y; «is_found» = 0; found = nothing } ≡ recoveryStepTo t z
   step-refused e y f g = rw (f, g, h)
 
 module _ (t s : ScanState) (h : s ≡ t) (z : Scanned) where
   pub scan-found : (x : Sealed) (o : ℕ) (y : FoundRecord) → z ≡ ScanFound x o → y ≡ foundAs o x
-      → record { state = s; refused = none; «is_found» = 1; found = y } ≡ scanStepTo t z
+      → record { state = s; refused = notRefused; «is_found» = 1; found = y } ≡ scanStepTo t z
   scan-found x o y f g = rw (f, g, h)
 
-  pub scan-ended : z ≡ ScanEnded → record { state = s; refused = none; «is_found» = 0; found = nothing } ≡ scanStepTo t z
+  pub scan-ended : z ≡ ScanEnded → record { state = s; refused = notRefused; «is_found» = 0; found = nothing } ≡ scanStepTo t z
   scan-ended f = rw (f, h)
 
   pub scan-refused : (e : Refusal) (y : Refused) → z ≡ ScanRefused e → y ≡ refusedBy e → record { state = s; refused = y; «is_found» = 0; found = nothing } ≡ scanStepTo t z
@@ -116,10 +116,10 @@ module _ (t s : ScanState) (h : s ≡ t) (z : Scanned) where
 
 -- find
 module _ (z : Finding) where
-  pub finding-at : (o : ℕ) → z ≡ At o → record { refused = none; «is_found» = 1; offset = o } ≡ findingBy z
+  pub finding-at : (o : ℕ) → z ≡ At o → record { refused = notRefused; «is_found» = 1; offset = o } ≡ findingBy z
   finding-at o f = rw f
 
-  pub finding-nowhere : z ≡ Nowhere → record { refused = none; «is_found» = 0; offset = 0 } ≡ findingBy z
+  pub finding-nowhere : z ≡ Nowhere → record { refused = notRefused; «is_found» = 0; offset = 0 } ≡ findingBy z
   finding-nowhere f = rw f
 
   pub finding-refused : (e : Refusal) (y : Refused) → z ≡ NotSearched e → y ≡ refusedBy e → record { refused = y; «is_found» = 0; offset = 0 } ≡ findingBy z
@@ -127,7 +127,7 @@ module _ (z : Finding) where
 
 -- openings
 module _ (z : Opening) where
-  pub opened-journal : (j : Journal) → z ≡ Opened j → record { refused = none; journal = j } ≡ openedBy z
+  pub opened-journal : (j : Journal) → z ≡ Opened j → record { refused = notRefused; journal = j } ≡ openedBy z
   opened-journal j f = rw f
 
   pub opened-refused : (e : Refusal) (y : Refused) → z ≡ NotOpened e → y ≡ refusedBy e → record { refused = y; journal = noJournal } ≡ openedBy z

@@ -20,10 +20,10 @@ use Rattle.append.specs.Append.{progressRefusal}
 use Rattle.answers.specs.declared.stepped.RecoveryState.{RecoveryState}
 use Rattle.answers.specs.declared.stepped.ScanState.{ScanState}
 use Rattle.numbers.specs.Refusing.{refusedAs}
-use Rattle.answers.specs.Stepping.{stepTo, scanStepTo, findingBy}
+use Rattle.answers.specs.Stepping.{recoveryStepTo, scanStepTo, findingBy}
 use Rattle.answers.specs.Appending.{openedBy, progressBy}
 
-pub step-numbers : (s : RecoveryState) (z : Answer) → stepTo s z .refused ≡ refusedAs (answerRefusal z)
+pub step-numbers : (s : RecoveryState) (z : Answer) → recoveryStepTo s z .refused ≡ refusedAs (answerRefusal z)
 step-numbers s (Found x) = refl
 step-numbers s Ended = refl
 step-numbers s (NoRecord e) = refl

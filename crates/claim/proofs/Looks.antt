@@ -29,7 +29,7 @@ use Rattle.decode.specs.declared.Header.the-variants.{Verified, Refused as NoHe
 use Rattle.decode.specs.declared.Frame.{Frame as FrameOf}
 use Rattle.decode.specs.declared.Decoding.{Decoding}
 use Rattle.decode.specs.declared.Decoding.the-variants.{Frame, Refused}
-use Rattle.decode.specs.Decode.{headerAt, lengthBy, frameLenOf, decoded}
+use Rattle.decode.specs.Decode.{headerAt, lengthUnder, frameLenOf, decoded}
 use Rattle.roundtrip.specs.ReadBack.{frameGiven}
 use Rattle.roundtrip.proofs.Frames.{header-of-frame, payload-size, payload-small}
 use Rattle.roundtrip.proofs.Fronts.{header-front}
@@ -102,7 +102,7 @@ module _ (a : ℕ) where
       cond-case Q (ltb (length t) 12) (λ _. f _)
       (λ _. cond-case Q (erased (take 12 t)) (λ _. f _) (λ _. go (headerAt (take 12 t)) refl))
     where
-      go : (d : Header) → headerAt (take 12 t) ≡ d → P (verdict a t (headed a (length t) (lengthBy d)))
+      go : (d : Header) → headerAt (take 12 t) ≡ d → P (verdict a t (headed a (length t) (lengthUnder d)))
       go (NoHeader e) i = g e
       go (Verified v) i =
           cond-case (λ s. P (verdict a t s)) (ltb (length t) (stride a (frameLen (v .«payload_len»)))) (λ _. g _)

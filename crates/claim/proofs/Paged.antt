@@ -29,7 +29,7 @@ use Rattle.decode.specs.declared.Header.the-variants.{Verified, Refused as NoHe
 use Rattle.decode.specs.declared.Frame.{Frame as FrameOf}
 use Rattle.decode.specs.declared.Decoding.{Decoding}
 use Rattle.decode.specs.declared.FrameLen.{FrameLen}
-use Rattle.decode.specs.declared.FrameLen.the-variants.{Bytes, Refused as NoLength}
+use Rattle.decode.specs.declared.FrameLen.the-variants.{Bytes, Refused as NoFrameLen}
 use Rattle.decode.specs.Decode.{headerAt, frameLenOf, framed, frameUnder, onHeader, decoded}
 use Rattle.place.specs.declared.Stand.{Stand}
 use Rattle.place.specs.declared.Stand.the-variants.{Found as StandsFound, Skipped, Clean as StandsClean, Damaged as StandsDamaged, Unsealed as StandsUnsealed}
@@ -194,7 +194,7 @@ module _ (s : Recovery) (region : List ℕ) where
           (λ _. go (frameLenOf (take 12 tail)) (ltb-false (length tail) 12 l)))
         where
           go : (d : FrameLen) → 12 ≤ length tail → Shown (headed a (length tail) d)
-          go (NoLength e) l = shown-damaged (BadHeader e) e refl
+          go (NoFrameLen e) l = shown-damaged (BadHeader e) e refl
           go (Bytes n) l =
               cond-case Shown (ltb (length tail) (stride a n)) (λ _. shown-damaged Overlong _ refl)
               (λ e. shown-whole (stride a n) l (ltb-false (length tail) (stride a n) e))

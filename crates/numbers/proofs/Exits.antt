@@ -28,7 +28,7 @@ use Rattle.decode.specs.declared.Decoding.the-variants.{Frame as IsFrame, Refus
 use Rattle.numbers.specs.declared.refused.Refused.{Refused}
 use Rattle.numbers.specs.declared.decoded.ReadRecord.{ReadRecord}
 use Rattle.numbers.specs.declared.decoded.DecodedFrame.{DecodedFrame}
-use Rattle.numbers.specs.Refusing.{none, refusedBy, lengthBy, frameLengthBy}
+use Rattle.numbers.specs.Refusing.{notRefused, refusedBy, lengthBy, frameLengthBy}
 use Rattle.numbers.specs.Inside.{plainOf}
 use Rattle.numbers.specs.Reading.{noPart, readAs, frameAs, unknownAs, frameBy, noFrameFor, decodedBy}
 
@@ -39,14 +39,14 @@ refused-by e n w m p q r = rw (p, q, r)
 
 -- lengths; y is what the refusal was made into
 module _ (z : Size) where
-  pub length-bytes : (n : ℕ) → z ≡ Bytes n → record { refused = none; bytes = n } ≡ lengthBy z
+  pub length-bytes : (n : ℕ) → z ≡ Bytes n → record { refused = notRefused; bytes = n } ≡ lengthBy z
   length-bytes n f = rw f
 
   pub length-refused : (e : Refusal) (y : Refused) → z ≡ NoLength e → y ≡ refusedBy e → record { refused = y; bytes = 0 } ≡ lengthBy z
   length-refused e y f g = rw (f, g)
 
 module _ (z : FrameLen) where
-  pub frame-bytes : (n : ℕ) → z ≡ FrameBytes n → record { refused = none; bytes = n } ≡ frameLengthBy z
+  pub frame-bytes : (n : ℕ) → z ≡ FrameBytes n → record { refused = notRefused; bytes = n } ≡ frameLengthBy z
   frame-bytes n f = rw f
 
   pub frame-refused : (e : DecodeError) (y : Refused) → z ≡ NoFrameLen e → y ≡ refusedBy (Decode e) → record { refused = y; bytes = 0 } ≡ frameLengthBy z

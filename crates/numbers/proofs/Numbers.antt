@@ -12,7 +12,7 @@ use Rattle.decode.specs.declared.FrameLen.the-variants.{Bytes as FrameBytes, Re
 use Rattle.decode.specs.declared.Decoding.{Decoding}
 use Rattle.decode.specs.declared.Decoding.the-variants.{Frame as IsFrame, Refused as NoFrame}
 use Rattle.decode.specs.Decode.{frameLenRefusal, decodingRefusal}
-use Rattle.numbers.specs.Refusing.{none, refusedAs, lengthBy, frameLengthBy}
+use Rattle.numbers.specs.Refusing.{notRefused, refusedAs, lengthBy, frameLengthBy}
 use Rattle.numbers.specs.Reading.{frameBy, decodedBy}
 
 pub length-numbers : (z : Size) → lengthBy z .refused ≡ refusedAs (sizeRefusal z)
@@ -23,7 +23,7 @@ pub frame-length-numbers : (z : FrameLen) → frameLengthBy z .refused ≡ refus
 frame-length-numbers (FrameBytes n) = refl
 frame-length-numbers (NoFrameLen e) = refl
 
-frame-numbers : (f : Frame) (d : Decoded) → frameBy f d .refused ≡ none
+frame-numbers : (f : Frame) (d : Decoded) → frameBy f d .refused ≡ notRefused
 frame-numbers f (Record x) = refl
 frame-numbers f (UnknownKind k) = refl
 

@@ -64,8 +64,8 @@ allDigits [] = true
 allDigits (b ∷ bs) = isDigit b && allDigits bs
 
 -- one or more digits, of which the first is no zero unless it is alone
-unfoldable pub wellFormed : List ℕ → Bool
-wellFormed s = ltb 0 (length s) && allDigits s && (eqb (length s) 1 || not (eqb (getD s 0 0) 48))
+unfoldable pub isDecimal : List ℕ → Bool
+isDecimal s = ltb 0 (length s) && allDigits s && (eqb (length s) 1 || not (eqb (getD s 0 0) 48))
 
 -- the number that digits make behind the digits of v, of any size
 unfoldable pub valueFrom : ℕ → List ℕ → ℕ
@@ -82,4 +82,4 @@ most = 18446744073709551615
 
 -- the number that a text is: well formed, and 64 bits hold it
 unfoldable pub numberOf : List ℕ → Number
-numberOf s = cond (wellFormed s && leb (valueOf s) most) (Value (valueOf s)) Bad
+numberOf s = cond (isDecimal s && leb (valueOf s) most) (Value (valueOf s)) Bad
