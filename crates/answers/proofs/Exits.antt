@@ -1,38 +1,16 @@
 -- The exits of the functions that make an answer into numbers: one law for each.
 -- Assumes nothing.
-use mathlib.Core.Path.{_≡_, refl, sym, ap, _∙_}
-use mathlib.Core.Bool.{Bool, true, false}
+use mathlib.Core.Path.{_≡_, _∙_}
+use mathlib.Core.Bool.{true, false}
 use Prim.Native.Nat.{ℕ, _<_}
 use native.Mathlib.Omega.{arith}
 use borrow.Author.Tests.{eq-eqb, ne-eqb}
-use Rattle.core.specs.declared.activity.ActivityKind.{ActivityKind}
-use Rattle.core.specs.declared.timer.ClockKind.{ClockKind}
-use Rattle.core.specs.declared.version.GateId.{GateId}
-use Rattle.core.specs.declared.id.EffectSeq.{EffectSeq}
-use Rattle.core.specs.declared.error.DecodeError.{DecodeError}
 use Rattle.core.specs.declared.error.Refusal.{Refusal}
-use Rattle.core.specs.declared.error.Refusal.the-variants.{Decode}
-use Rattle.core.specs.Refusals.{numbered}
-use Rattle.core.specs.declared.«record».RecordKind.{RecordKind}
-use Rattle.core.specs.declared.«record».Record.{Record}
-use Rattle.core.specs.declared.«record».Part.{Part}
-use Rattle.core.specs.declared.«record».RecordRef.{RecordRef}
-use Rattle.core.specs.declared.«record».RecordRef.the-variants.{RunStarted, EffectScheduled, EffectCompleted, EffectFailed, TimerScheduled, TimerFired, RunCompleted, RunFailed, VersionMarker}
-use Rattle.core.specs.Kinds.{plainRecord, kindOf, seqOf}
-use Rattle.frame.specs.declared.lengths.Size.{Size}
-use Rattle.frame.specs.declared.lengths.Size.the-variants.{Bytes, Refused as NoLength}
-use Rattle.payload.specs.declared.Decoded.{Decoded}
-use Rattle.payload.specs.declared.Decoded.the-variants.{Record as Known, UnknownKind}
-use Rattle.decode.specs.declared.FrameLen.{FrameLen}
-use Rattle.decode.specs.declared.FrameLen.the-variants.{Bytes as FrameBytes, Refused as NoFrameLen}
-use Rattle.decode.specs.declared.Frame.{Frame}
-use Rattle.decode.specs.declared.Decoding.{Decoding}
-use Rattle.decode.specs.declared.Decoding.the-variants.{Frame as IsFrame, Refused as NoFrame}
 use Rattle.place.specs.declared.Sealed.{Sealed}
 use Rattle.recovery.specs.declared.next.Ending.{Ending}
 use Rattle.recovery.specs.declared.next.Ending.the-variants.{Open, Clean, Damaged, Incomplete, Unsealed}
 use Rattle.recovery.specs.declared.next.Recovery.{Recovery}
-use Rattle.recovery.specs.declared.next.Found.{Found as RecoveryFound}
+use Rattle.recovery.specs.declared.next.Found.{Found as Record}
 use Rattle.recovery.specs.declared.next.Answer.{Answer}
 use Rattle.recovery.specs.declared.next.Answer.the-variants.{Found, Ended, Refused as NoRecord}
 use Rattle.scan.specs.declared.Scan.{Scan}
@@ -40,97 +18,23 @@ use Rattle.scan.specs.declared.Scanned.{Scanned}
 use Rattle.scan.specs.declared.Scanned.the-variants.{Found as ScanFound, Ended as ScanEnded, Refused as ScanRefused}
 use Rattle.find.specs.declared.Finding.{Finding}
 use Rattle.find.specs.declared.Finding.the-variants.{At, Nowhere, Refused as NotSearched}
-use Rattle.journal.specs.declared.WriteAmplification.{WriteAmplification}
+use Rattle.counts.specs.declared.WriteAmplification.{WriteAmplification}
 use Rattle.journal.specs.declared.Journal.{Journal}
 use Rattle.journal.specs.declared.Opening.{Opening}
 use Rattle.journal.specs.declared.Opening.the-variants.{Opened, Refused as NotOpened}
-use Rattle.journal.specs.Opening.{none as unwritten}
+use Rattle.counts.specs.Counts.{unwritten}
 use Rattle.append.specs.declared.step.Progress.{Progress}
 use Rattle.append.specs.declared.step.Progress.the-variants.{Staged, Confirmed, Committed, Refused as NoStep}
-use Rattle.answers.specs.declared.refused.Refused.{Refused}
-use Rattle.answers.specs.declared.refused.Length.{Length}
-use Rattle.answers.specs.declared.decoded.ReadRecord.{ReadRecord}
-use Rattle.answers.specs.declared.decoded.DecodedFrame.{DecodedFrame}
+use Rattle.numbers.specs.declared.refused.Refused.{Refused}
+use Rattle.numbers.specs.declared.decoded.ReadRecord.{ReadRecord}
 use Rattle.answers.specs.declared.stepped.FoundRecord.{FoundRecord}
 use Rattle.answers.specs.declared.stepped.RecoveryState.{RecoveryState}
 use Rattle.answers.specs.declared.stepped.ScanState.{ScanState}
 use Rattle.answers.specs.declared.opened.AdvancedJournal.{AdvancedJournal}
-use Rattle.answers.specs.Refusing.{none, refusedBy, lengthBy, frameLengthBy}
-use Rattle.answers.specs.Reading.{noPart, withRun, withInput, withClock, withGate, readOver, readAs, frameAs, unknownAs, frameBy, noFrameFor, decodedBy}
-use Rattle.answers.specs.Stepping.{foundAs, nothing, endingNumber, endingOf, recoveryOf, stateOf, stateAfter, stepTo, bit, scanStateOf, scanStateAfter, scanStepTo, findingBy}
+use Rattle.numbers.specs.Refusing.{notRefused, refusedBy}
+use Rattle.numbers.specs.Reading.{readAs}
+use Rattle.answers.specs.Stepping.{foundAs, nothing, endingNumber, endingOf, recoveryOf, stateOf, stateAfter, recoveryStepTo, scanStateOf, scanStateAfter, scanStepTo, findingBy}
 use Rattle.answers.specs.Appending.{noJournal, openedBy, advancedTo, progressBy}
-
--- a refusal's three numbers
-pub refused-by : (e : Refusal) (n w m : ℕ) → n ≡ numbered e .number → w ≡ numbered e .needed → m ≡ numbered e .available
-    → record { number = n; needed = w; available = m } ≡ refusedBy e
-refused-by e n w m p q r = rw (p, q, r)
-
--- lengths; y is what the refusal was made into
-module _ (z : Size) where
-  pub length-bytes : (n : ℕ) → z ≡ Bytes n → record { refused = none; bytes = n } ≡ lengthBy z
-  length-bytes n f = rw f
-
-  pub length-refused : (e : Refusal) (y : Refused) → z ≡ NoLength e → y ≡ refusedBy e → record { refused = y; bytes = 0 } ≡ lengthBy z
-  length-refused e y f g = rw (f, g)
-
-module _ (z : FrameLen) where
-  pub frame-bytes : (n : ℕ) → z ≡ FrameBytes n → record { refused = none; bytes = n } ≡ frameLengthBy z
-  frame-bytes n f = rw f
-
-  pub frame-refused : (e : DecodeError) (y : Refused) → z ≡ NoFrameLen e → y ≡ refusedBy (Decode e) → record { refused = y; bytes = 0 } ≡ frameLengthBy z
-  frame-refused e y f g = rw (f, g)
-
--- a found record's numbers over a plain one
-module _ (x : Record) (z : RecordRef) where
-  pub over-run-started : (w v : ℕ) (p : Part) → z ≡ RunStarted w v p → record { «record» = withRun x w v; free = p } ≡ readOver x z
-  over-run-started w v p f = rw f
-
-  pub over-effect-scheduled : (q : EffectSeq) (k : ActivityKind) (n c : ℕ) → z ≡ EffectScheduled q k n c → record { «record» = withInput x k n c; free = noPart } ≡ readOver x z
-  over-effect-scheduled q k n c f = rw f
-
-  pub over-effect-completed : (q : EffectSeq) (p : Part) → z ≡ EffectCompleted q p → record { «record» = x; free = p } ≡ readOver x z
-  over-effect-completed q p f = rw f
-
-  pub over-effect-failed : (q : EffectSeq) (p : Part) → z ≡ EffectFailed q p → record { «record» = x; free = p } ≡ readOver x z
-  over-effect-failed q p f = rw f
-
-  pub over-timer-scheduled : (q : EffectSeq) (t : ClockKind) (d m : ℕ) → z ≡ TimerScheduled q t d m → record { «record» = withClock x t d m; free = noPart } ≡ readOver x z
-  over-timer-scheduled q t d m f = rw f
-
-  pub over-timer-fired : (q : EffectSeq) → z ≡ TimerFired q → record { «record» = x; free = noPart } ≡ readOver x z
-  over-timer-fired q f = rw f
-
-  pub over-run-completed : (p : Part) → z ≡ RunCompleted p → record { «record» = x; free = p } ≡ readOver x z
-  over-run-completed p f = rw f
-
-  pub over-run-failed : (p : Part) → z ≡ RunFailed p → record { «record» = x; free = p } ≡ readOver x z
-  over-run-failed p f = rw f
-
-  pub over-version-marker : (q : EffectSeq) (g : GateId) (v : ℕ) → z ≡ VersionMarker q g v → record { «record» = withGate x g v; free = noPart } ≡ readOver x z
-  over-version-marker q g v f = rw f
-
--- a found record as it is given; k and q are its kind and sequence
-pub read-as : (z : RecordRef) (k : RecordKind) (q : EffectSeq) (x : Record) (y : ReadRecord) → k .0 ≡ kindOf z → q .0 ≡ seqOf z → x ≡ plainRecord k q → y ≡ readOver x z
-    → y ≡ readAs z
-read-as z k q x y f g h i = i ∙ ap (λ v. readOver v z) (h ∙ ap (λ v. plainRecord (record { 0 = v }) q) f ∙ ap (λ v. plainRecord (record { 0 = kindOf z }) (record { 0 = v })) g)
-
-pub unknown-as : (k : RecordKind) (x : Record) → x ≡ plainRecord k (record { 0 = 0 }) → record { «record» = x; free = noPart } ≡ unknownAs k
-unknown-as k x f = rw f
-
--- frames; d is what the payload says
-module _ (f : Frame) (d : Decoded) where
-  pub frame-known : (x : RecordRef) (y : ReadRecord) (r : DecodedFrame) → d ≡ Known x → y ≡ readAs x → r ≡ frameAs 1 y f → r ≡ frameBy f d
-  frame-known x y r g h i = i ∙ rw (g, h)
-
-  pub frame-unknown : (k : RecordKind) (y : ReadRecord) (r : DecodedFrame) → d ≡ UnknownKind k → y ≡ unknownAs k → r ≡ frameAs 0 y f → r ≡ frameBy f d
-  frame-unknown k y r g h i = i ∙ rw (g, h)
-
-module _ (z : Decoding) where
-  pub decoded-frame : (f : Frame) (r : DecodedFrame) → z ≡ IsFrame f → r ≡ frameBy f (f .decoded) → r ≡ decodedBy z
-  decoded-frame f r g h = h ∙ rw g
-
-  pub decoded-refused : (e : DecodeError) (y : Refused) (r : DecodedFrame) → z ≡ NoFrame e → y ≡ refusedBy (Decode e) → r ≡ noFrameFor y → r ≡ decodedBy z
-  decoded-refused e y r g h i = i ∙ rw (g, h)
 
 -- endings
 module _ (n : ℕ) where
@@ -189,22 +93,22 @@ found-as o x y f = rw f
 
 -- steps; s is the state t as it was made into numbers
 module _ (t s : RecoveryState) (h : s ≡ t) (z : Answer) where
-  pub step-found : (x : RecoveryFound) (y : FoundRecord) → z ≡ Found x → y ≡ foundAs (x .offset) (x .«record»)
-      → record { state = s; refused = none; «is_found» = 1; found = y } ≡ stepTo t z
+  pub step-found : (x : Record) (y : FoundRecord) → z ≡ Found x → y ≡ foundAs (x .offset) (x .«record»)
+      → record { state = s; refused = notRefused; «is_found» = 1; found = y } ≡ recoveryStepTo t z
   step-found x y f g = rw (f, g, h)
 
-  pub step-ended : z ≡ Ended → record { state = s; refused = none; «is_found» = 0; found = nothing } ≡ stepTo t z
+  pub step-ended : z ≡ Ended → record { state = s; refused = notRefused; «is_found» = 0; found = nothing } ≡ recoveryStepTo t z
   step-ended f = rw (f, h)
 
-  pub step-refused : (e : Refusal) (y : Refused) → z ≡ NoRecord e → y ≡ refusedBy e → record { state = s; refused = y; «is_found» = 0; found = nothing } ≡ stepTo t z
+  pub step-refused : (e : Refusal) (y : Refused) → z ≡ NoRecord e → y ≡ refusedBy e → record { state = s; refused = y; «is_found» = 0; found = nothing } ≡ recoveryStepTo t z
   step-refused e y f g = rw (f, g, h)
 
 module _ (t s : ScanState) (h : s ≡ t) (z : Scanned) where
   pub scan-found : (x : Sealed) (o : ℕ) (y : FoundRecord) → z ≡ ScanFound x o → y ≡ foundAs o x
-      → record { state = s; refused = none; «is_found» = 1; found = y } ≡ scanStepTo t z
+      → record { state = s; refused = notRefused; «is_found» = 1; found = y } ≡ scanStepTo t z
   scan-found x o y f g = rw (f, g, h)
 
-  pub scan-ended : z ≡ ScanEnded → record { state = s; refused = none; «is_found» = 0; found = nothing } ≡ scanStepTo t z
+  pub scan-ended : z ≡ ScanEnded → record { state = s; refused = notRefused; «is_found» = 0; found = nothing } ≡ scanStepTo t z
   scan-ended f = rw (f, h)
 
   pub scan-refused : (e : Refusal) (y : Refused) → z ≡ ScanRefused e → y ≡ refusedBy e → record { state = s; refused = y; «is_found» = 0; found = nothing } ≡ scanStepTo t z
@@ -212,10 +116,10 @@ module _ (t s : ScanState) (h : s ≡ t) (z : Scanned) where
 
 -- find
 module _ (z : Finding) where
-  pub finding-at : (o : ℕ) → z ≡ At o → record { refused = none; «is_found» = 1; offset = o } ≡ findingBy z
+  pub finding-at : (o : ℕ) → z ≡ At o → record { refused = notRefused; «is_found» = 1; offset = o } ≡ findingBy z
   finding-at o f = rw f
 
-  pub finding-nowhere : z ≡ Nowhere → record { refused = none; «is_found» = 0; offset = 0 } ≡ findingBy z
+  pub finding-nowhere : z ≡ Nowhere → record { refused = notRefused; «is_found» = 0; offset = 0 } ≡ findingBy z
   finding-nowhere f = rw f
 
   pub finding-refused : (e : Refusal) (y : Refused) → z ≡ NotSearched e → y ≡ refusedBy e → record { refused = y; «is_found» = 0; offset = 0 } ≡ findingBy z
@@ -223,7 +127,7 @@ module _ (z : Finding) where
 
 -- openings
 module _ (z : Opening) where
-  pub opened-journal : (j : Journal) → z ≡ Opened j → record { refused = none; journal = j } ≡ openedBy z
+  pub opened-journal : (j : Journal) → z ≡ Opened j → record { refused = notRefused; journal = j } ≡ openedBy z
   opened-journal j f = rw f
 
   pub opened-refused : (e : Refusal) (y : Refused) → z ≡ NotOpened e → y ≡ refusedBy e → record { refused = y; journal = noJournal } ≡ openedBy z

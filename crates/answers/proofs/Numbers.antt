@@ -1,17 +1,6 @@
 -- The refusal in each answer for C is the one that the answer's own definition numbers.
 -- Assumes nothing.
 use mathlib.Core.Path.{_≡_, refl}
-use Rattle.frame.specs.declared.lengths.Size.{Size}
-use Rattle.frame.specs.declared.lengths.Size.the-variants.{Bytes, Refused as NoLength}
-use Rattle.frame.specs.Lengths.{sizeRefusal}
-use Rattle.payload.specs.declared.Decoded.{Decoded}
-use Rattle.payload.specs.declared.Decoded.the-variants.{Record, UnknownKind}
-use Rattle.decode.specs.declared.Frame.{Frame}
-use Rattle.decode.specs.declared.FrameLen.{FrameLen}
-use Rattle.decode.specs.declared.FrameLen.the-variants.{Bytes as FrameBytes, Refused as NoFrameLen}
-use Rattle.decode.specs.declared.Decoding.{Decoding}
-use Rattle.decode.specs.declared.Decoding.the-variants.{Frame as IsFrame, Refused as NoFrame}
-use Rattle.decode.specs.Decode.{frameLenRefusal, decodingRefusal}
 use Rattle.recovery.specs.declared.next.Answer.{Answer}
 use Rattle.recovery.specs.declared.next.Answer.the-variants.{Found, Ended, Refused as NoRecord}
 use Rattle.recovery.specs.Next.{answerRefusal}
@@ -30,28 +19,11 @@ use Rattle.append.specs.declared.step.Progress.the-variants.{Staged, Confirmed,
 use Rattle.append.specs.Append.{progressRefusal}
 use Rattle.answers.specs.declared.stepped.RecoveryState.{RecoveryState}
 use Rattle.answers.specs.declared.stepped.ScanState.{ScanState}
-use Rattle.answers.specs.Refusing.{none, refusedAs, lengthBy, frameLengthBy}
-use Rattle.answers.specs.Reading.{frameBy, decodedBy}
-use Rattle.answers.specs.Stepping.{stepTo, scanStepTo, findingBy}
+use Rattle.numbers.specs.Refusing.{refusedAs}
+use Rattle.answers.specs.Stepping.{recoveryStepTo, scanStepTo, findingBy}
 use Rattle.answers.specs.Appending.{openedBy, progressBy}
 
-pub length-numbers : (z : Size) → lengthBy z .refused ≡ refusedAs (sizeRefusal z)
-length-numbers (Bytes n) = refl
-length-numbers (NoLength e) = refl
-
-pub frame-length-numbers : (z : FrameLen) → frameLengthBy z .refused ≡ refusedAs (frameLenRefusal z)
-frame-length-numbers (FrameBytes n) = refl
-frame-length-numbers (NoFrameLen e) = refl
-
-frame-numbers : (f : Frame) (d : Decoded) → frameBy f d .refused ≡ none
-frame-numbers f (Record x) = refl
-frame-numbers f (UnknownKind k) = refl
-
-pub decoded-numbers : (z : Decoding) → decodedBy z .refused ≡ refusedAs (decodingRefusal z)
-decoded-numbers (IsFrame f) = frame-numbers f (f .decoded)
-decoded-numbers (NoFrame e) = refl
-
-pub step-numbers : (s : RecoveryState) (z : Answer) → stepTo s z .refused ≡ refusedAs (answerRefusal z)
+pub step-numbers : (s : RecoveryState) (z : Answer) → recoveryStepTo s z .refused ≡ refusedAs (answerRefusal z)
 step-numbers s (Found x) = refl
 step-numbers s Ended = refl
 step-numbers s (NoRecord e) = refl

@@ -1,5 +1,3 @@
 -- The definitions of the answers as numbers.
-pub mod Refusing
-pub mod Reading
 pub mod Stepping
 pub mod Appending

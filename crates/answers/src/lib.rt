@@ -1,5 +1,3 @@
-// The answers of all calls as numbers in structs, in the form in which C takes them.
-pub mod decoded;
+// The answers of recovery, scan, find and append as numbers in structs, in the form in which C takes them.
 pub mod opened;
-pub mod refused;
 pub mod stepped;

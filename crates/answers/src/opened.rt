@@ -1,14 +1,14 @@
 // An opening and the steps of an append as numbers.
 ghost use mathlib.Core.Path.{_≡_};
 ghost use Rattle.answers.specs.Appending.{openedBy, advancedTo, advancedBy};
-use crate::refused::NONE;
-use crate::refused::Refused;
-use crate::refused::refused_by;
 use append::step::Advanced;
 use append::step::Progress;
+use counts::WriteAmplification;
 use journal::Journal;
 use journal::Opening;
-use journal::WriteAmplification;
+use numbers::refused::NONE;
+use numbers::refused::Refused;
+use numbers::refused::refused_by;
 use storage::geometry::Geometry;
 
 // The journal is all 0 where the opening is refused.

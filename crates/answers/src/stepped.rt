@@ -1,15 +1,15 @@
 // Recovery, scan and find as numbers: their states in both directions, and their answers.
 ghost use mathlib.Core.Path.{_≡_};
-ghost use Rattle.answers.specs.Stepping.{foundAs, endingNumber, endingOf, recoveryOf, stateOf, stateAfter, stepBy, scanOf, scanStateOf, scanStateAfter, scanStepBy, findingBy};
-use crate::decoded::NO_PART;
-use crate::decoded::NO_RECORD;
-use crate::decoded::read_as;
-use crate::refused::NONE;
-use crate::refused::Refused;
-use crate::refused::refused_by;
+ghost use Rattle.answers.specs.Stepping.{foundAs, endingNumber, endingOf, recoveryOf, stateOf, stateAfter, recoveryStepBy, scanOf, scanStateOf, scanStateAfter, scanStepBy, findingBy};
 use core::record::Part;
 use core::record::Record;
 use find::Finding;
+use numbers::decoded::NO_PART;
+use numbers::decoded::NO_RECORD;
+use numbers::decoded::read_as;
+use numbers::refused::NONE;
+use numbers::refused::Refused;
+use numbers::refused::refused_by;
 use place::Sealed;
 use recovery::next::Answer;
 use recovery::next::Ending;
@@ -163,7 +163,7 @@ fn state_after(before: RecoveryState, after: Recovery) -> RecoveryState
 }
 
 pub fn step_by(before: RecoveryState, x: Stepped) -> RecoveryStep
-    ensures { λ r. ⌜ r ≡ stepBy before x ⌝ }
+    ensures { λ r. ⌜ r ≡ recoveryStepBy before x ⌝ }
 {
     let after = x.state;
     let state = state_after(before, after);

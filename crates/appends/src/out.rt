@@ -2,7 +2,7 @@
 use append::step::Advanced;
 use append::step::Progress;
 use core::error::Refusal;
-use journal::WriteAmplification;
+use counts::WriteAmplification;
 use libc::STDOUT_FILENO;
 
 pub(crate) fn text(s: &[u8]) {

@@ -27,7 +27,7 @@ use Rattle.recovery.specs.Next.{answerRefusal, walkFrom, pageAfter, before, ste
 use Rattle.finish.specs.Finish.{toEnd, founds}
 use Rattle.find.specs.Find.{findingRefusal, carries, kept, latest, findIn}
 use Rattle.journal.specs.Opening.{openingRefusal, ready, opened}
-use Rattle.append.specs.Append.{progressRefusal, Left, onDevice, asStaged, underWay, begins, staged, isNext, confirmed, barred, moved, committed}
+use Rattle.append.specs.Append.{progressRefusal, StepLeft, onDevice, asStaged, underWay, begins, staged, isNext, confirmed, barred, afterCommit, committed}
 
 -- a timer fired, sequence 7
 abbrev fired : Record
@@ -67,14 +67,14 @@ atOpen a r region page = openingRefusal (opened a r region (replicate page 0) .o
 abbrev atFind : ℕ → ℕ → List ℕ → ℕ → Numbered
 atFind a r region page = findingRefusal (findIn 7 a r region (replicate page 0) .finding)
 
-abbrev atAppend : Left → Numbered
+abbrev atAppend : StepLeft → Numbered
 atAppend x = progressRefusal (x .out .progress)
 
 -- stage the first record over a blank region of n bytes, with a = 4
-abbrev begun : ℕ → Left
+abbrev begun : ℕ → StepLeft
 begun n = staged (ready (units n 4 1) 0) fired [] (blank n) (replicate 20 0)
 
-abbrev firm : Left
+abbrev firm : StepLeft
 firm = barred (begun 20 .out .journal) (begun 20 .region)
 
 -- an answer's refusal, then its number, needed and available as they should be
@@ -149,5 +149,5 @@ wished (gives x n w m) = n ∷ w ∷ m ∷ []
 
 -- the whole table, computed
 numbers : map given table ≡ map wished table
-unfolding table oneOf known runScoped hasFree seqFits freeFits widths numbersLen clockKnown clockFits plainRecord bitStep bitSteps octet octets fcs headerCheck frameCheck unitUpTo programUnit readUnit regionLength allowed settings roundUp programmedFrom erased ands programmed laidOver bytesLE valueLE fieldBytes fields bodyLen recordLen wellGiven payloadFits payloadLen withUnit encodedLenFor encodedLen numbersOf payloadOf sealedHeader headerOf coveredOf checkOf frameOf paddingOf sealByte sealFrom bodyOf recordOf sealedFrom sealHolds overwritten encodedBytes encoded lengthFits recordWith wellFormed bodyAt headerAt frameLenOf frameUnder decoded settled judged shapeOf stands walkOver walk scanned stepOf capacityOf laid tailReads further wanted made seenBy paged readsAt readsAll walkFrom pageAfter before step toEnd founds carries kept latest findIn opened onDevice asStaged underWay begins staged isNext confirmed barred moved committed
+unfolding table oneOf known runScoped hasFree seqFits freeFits widths numbersLen clockKnown clockFits plainRecord bitStep bitSteps octet octets fcs headerCheck frameCheck unitUpTo programUnit readUnit regionLength allowed settings roundUp programmedFrom erased ands programmed laidOver bytesLE valueLE fieldBytes fields bodyLen recordLen wellGiven payloadFits payloadLen withUnit encodedLenFor encodedLen numbersOf payloadOf sealedHeader headerOf coveredOf checkOf frameOf paddingOf sealByte sealFrom bodyOf recordOf sealedFrom sealHolds overwritten encodedBytes encoded lengthFits recordWith wellFormed bodyAt headerAt frameLenOf frameUnder decoded settled judged shapeOf stands walkOver walk scanned stepOf capacityOf laid tailReads further wanted made seenBy paged readsAt readsAll walkFrom pageAfter before step toEnd founds carries kept latest findIn opened onDevice asStaged underWay begins staged isNext confirmed barred afterCommit committed
 numbers = refl

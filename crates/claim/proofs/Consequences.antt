@@ -13,7 +13,7 @@ use Rattle.finish.specs.Finish.{founds}
 use Rattle.roundtrip.specs.Typed.{AllBytes}
 use Rattle.journal.specs.declared.Journal.{Journal}
 use Rattle.journal.specs.declared.Opening.the-variants.{Opened}
-use Rattle.journal.specs.Opening.{Left, opened}
+use Rattle.journal.specs.Opening.{OpenLeft, opened}
 use Rattle.journal.proofs.Openings.{opens-by}
 use Rattle.claim.specs.Saying.{Given, Said, given, allGiven}
 use Rattle.claim.specs.Events.{commit, Event, call, unrefused, done, under, State, step, run, start, Large}
@@ -44,7 +44,7 @@ module _ (n a r : ℕ) (es : List Event) (claim : Claim n a r es) where
   -- an opening, by its definition, stands before erased bytes
   pub opened-stands : (page : List ℕ) (j : Journal) → opened a r region page .opening ≡ Opened j → erased (drop (j .offset) region) ≡ true
   opened-stands page j e =
-      let l : Left = opened a r region page in
+      let l : OpenLeft = opened a r region page in
       claim .opens-erased page (l .page) j (opens-by (ap (λ x. record { opening = x; page = l .page }) (sym e)))
 
   -- a record whose commit was not refused is among what a caller reads

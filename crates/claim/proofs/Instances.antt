@@ -31,7 +31,7 @@ use Rattle.roundtrip.specs.Typed.{AllBytes, Typed}
 use Rattle.journal.specs.declared.Journal.{Journal}
 use Rattle.journal.specs.declared.Opening.{Opening}
 use Rattle.journal.specs.Opening.{openingOf}
-use Rattle.append.specs.Append.{unitOf, roomOf, stagedWith, asStaged, onDevice, underWay, begins, staged, isNext, confirmed, barred, moved, committed}
+use Rattle.append.specs.Append.{unitOf, roomOf, stagedWith, asStaged, onDevice, underWay, begins, staged, isNext, confirmed, barred, afterCommit, committed}
 use Rattle.claim.specs.Cuts.{bit, Mixed, Cut}
 use Rattle.claim.specs.Saying.{Given, given, allGiven}
 use Rattle.claim.specs.Events.{Call, opening, stage, barrier, commit, Event, call, cut, cutIn, Held, none, holds, Machine, Verdict, Outcome, afterOpening, stepped, stepBy, done, Way, nothing, under, Book, told, State, sealedIn, called, cutOff, step, run, verdicts, Large, Stands, StandsCut, Allows, Valid, start}
@@ -127,7 +127,7 @@ expected x = record { valid = true; verdicts = answers (x .entries); book = x .b
 
 -- the whole table, computed
 tried-table : map tried table ≡ map expected table
-unfolding traced walk walkOver stands shapeOf erased programmedFrom programmed ands bitStep bitSteps octet octets fcs headerCheck frameCheck bytesLE valueLE fieldBytes fields bodyLen recordLen wellGiven payloadFits payloadLen numbersOf payloadOf sealedHeader headerOf coveredOf checkOf frameOf paddingOf sealByte sealFrom bodyOf sealedFrom sealHolds widths roundUp lengthFits recordWith wellFormed bodyAt headerAt frameUnder decoded settled judged known seqFits runScoped hasFree oneOf freeFits clockKnown clockFits numbersLen allowed regionLength programUnit readUnit unitUpTo asStaged onDevice underWay begins staged isNext confirmed barred moved committed
+unfolding traced walk walkOver stands shapeOf erased programmedFrom programmed ands bitStep bitSteps octet octets fcs headerCheck frameCheck bytesLE valueLE fieldBytes fields bodyLen recordLen wellGiven payloadFits payloadLen numbersOf payloadOf sealedHeader headerOf coveredOf checkOf frameOf paddingOf sealByte sealFrom bodyOf sealedFrom sealHolds widths roundUp lengthFits recordWith wellFormed bodyAt headerAt frameUnder decoded settled judged known seqFits runScoped hasFree oneOf freeFits clockKnown clockFits numbersLen allowed regionLength programUnit readUnit unitUpTo asStaged onDevice underWay begins staged isNext confirmed barred afterCommit committed
 tried-table = refl
 
 -- # What it tests is so

@@ -32,12 +32,13 @@ use Rattle.finish.proofs.Walks.{Goes, run-without-page}
 use Rattle.roundtrip.specs.Typed.{AllBytes, Typed}
 use Rattle.roundtrip.proofs.Lists.{bytes-append}
 use Rattle.roundtrip.proofs.Frames.{payload-size}
-use Rattle.journal.specs.declared.WriteAmplification.{WriteAmplification}
+use Rattle.counts.specs.declared.WriteAmplification.{WriteAmplification}
 use Rattle.journal.specs.declared.Journal.{Journal}
 use Rattle.journal.specs.declared.Opening.{Opening}
-use Rattle.journal.specs.declared.Opening.the-variants.{Opened, Refused as NoJournal}
-use Rattle.journal.specs.Opening.{none as nothingWritten, ready, openingOf, opened}
-use Rattle.append.specs.Append.{counts, plus, unitOf, Left, keeps as refusing, checkFor, bodyFor, onDevice, stagedWith, begins, staged, underWay, isNext, confirmed, barred, moved, committed}
+use Rattle.journal.specs.declared.Opening.the-variants.{Opened, Refused as NotOpened}
+use Rattle.journal.specs.Opening.{ready, openingOf, opened}
+use Rattle.append.specs.Append.{unitOf, StepLeft, keeps as refusing, checkFor, bodyFor, onDevice, stagedWith, begins, staged, underWay, isNext, confirmed, barred, afterCommit, committed}
+use Rattle.counts.specs.Counts.{counts, unwritten as nothingWritten, plus}
 use Rattle.claim.specs.Cuts.{Cut}
 use Rattle.claim.specs.Saying.{Given, payloadFor, allGiven}
 use Rattle.claim.specs.Events.{Call, opening, stage, barrier, commit, Event, call, cut, cutIn, Held, none, holds, Machine, machine, refusedWith, Outcome, outcome, afterOpening, stepped, done, Torn, TornIn, lost, Way, nothing, under, wholeSeal, sealedIn, State, called, cutOff, step, run, Large, Stands, Allows, Valid, start}
@@ -49,7 +50,7 @@ use Rattle.claim.proofs.Passing.{Shape, Ready, passes-none, ready-shape
 use Rattle.claim.proofs.Appends.{Busy, busy-shape, busy-unsealed, torn-body, torn-unsealed, sealed, torn-whole, torn-part}
 
 -- what holds of a refusal, and of the step that follows refusals 1 and 2, holds of both
-pub on-device : (P : Left → Type 0) (j : Journal) (region page : List ℕ) (next : Left) → ((e : Refusal) → P (refusing e j region page)) → P next → P (onDevice j region page next)
+pub on-device : (P : StepLeft → Type 0) (j : Journal) (region page : List ℕ) (next : StepLeft) → ((e : Refusal) → P (refusing e j region page)) → P next → P (onDevice j region page next)
 unfolding onDevice
 on-device P j region page next f h =
     cond-case P (not (allowed (j .geometry .bytes) (unitOf j) (j .geometry .«read_size»))) (λ _. f Settings)
@@ -203,7 +204,7 @@ module _ (n a r : ℕ) (ok : allowed n a r ≡ true) where
     ready-stage : (y : Given) (page : List ℕ) → Typed (y .«record») (y .free) → Keeps s₀ (stage y page) (done a r m₀ (stage y page))
     unfolding staged begins underWay
     ready-stage y page t = on-device P (idle o w) s page _ (λ e. no-stage s₀ i₀ _ y page) (go (payloadLen (y .«record») (length (y .free))) refl) where
-      P : Left → Type 0
+      P : StepLeft → Type 0
       P l = Keeps s₀ (stage y page) (stepped m₀ l)
 
       go : (z : Size) → payloadLen (y .«record») (length (y .free)) ≡ z → P (stagedWith (idle o w) (y .«record») (y .free) s page z)
@@ -251,7 +252,7 @@ module _ (n a r : ℕ) (ok : allowed n a r ≡ true) where
     staged-barrier : Keeps s₁ barrier (done a r m₁ barrier)
     unfolding barred isNext confirmed
     staged-barrier =
-        let P : Left → Type 0 = λ l. Keeps s₁ barrier (stepped m₁ l) in
+        let P : StepLeft → Type 0 = λ l. Keeps s₁ barrier (stepped m₁ l) in
         on-device P j₁ s [] _ (λ e. no-barrier s₁ i₁ _)
         (cond-case P (not (leb (o + bodyLen a (length (payloadFor y)) + a) n)) (λ _. no-barrier s₁ i₁ _)
         (λ _. record { kept = firm-inv base s o y (plus w (counts 0 0 0 1)) bs x v; torn = cut-inv s₁ i₁ }))
@@ -300,9 +301,9 @@ module _ (n a r : ℕ) (ok : allowed n a r ≡ true) where
     torn-seal u c false e = lost-inv u bs (sound-cut s sealed-region u x sealed-sound c) (torn-part a some base s o y bs v u c e)
 
     firm-commit : Keeps s₂ commit (done a r m₂ commit)
-    unfolding committed isNext moved
+    unfolding committed isNext afterCommit
     firm-commit =
-        let P : Left → Type 0 = λ l. Keeps s₂ commit (stepped m₂ l) in
+        let P : StepLeft → Type 0 = λ l. Keeps s₂ commit (stepped m₂ l) in
         on-device P j₂ s [] _ (λ e. no-commit s₂ i₂ _)
         (cond-case P (not (leb (slot + a) n)) (λ _. no-commit s₂ i₂ _)
         (λ _.
@@ -326,7 +327,7 @@ module _ (n a r : ℕ) (ok : allowed n a r ≡ true) where
   opening-torn s page u i c = cut-inv s i u (subst (λ t. Cut (s .machine .base) t u) (same (opened a r (s .machine .region) page .opening)) c) where
     same : (y : Opening) → afterOpening (s .machine) y .leaves .region ≡ s .machine .region
     same (Opened j) = refl
-    same (NoJournal e) = refl
+    same (NotOpened e) = refl
 
   -- a step keeps it where there is a journal
   stage-inv : (s : State) (q : Given) (page : List ℕ) → Inv s → Stands (s .book) (stage q page) → Keeps s (stage q page) (done a r (s .machine) (stage q page))

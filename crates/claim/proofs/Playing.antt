@@ -9,7 +9,7 @@ use Rattle.storage.specs.Settings.{allowed}
 use Rattle.journal.specs.declared.Journal.{Journal}
 use Rattle.journal.specs.Opening.{opened}
 use Rattle.journal.proofs.Openings.{opens-by}
-use Rattle.append.specs.Append.{Left, isNext, staged, barred, committed}
+use Rattle.append.specs.Append.{StepLeft, isNext, staged, barred, committed}
 use Rattle.append.proofs.Onward.{stages-by, confirms-by, commits-by}
 use Rattle.claim.specs.Events.{Call, opening, stage, barrier, commit, Event, call, cut, cutIn, Held, holds, Machine, Outcome, afterOpening, stepped, stepBy, done, State, sealedIn, called, cutOff, step, run, verdicts, Stands, Valid}
 use Rattle.claim.specs.Promised.{Made, opens, stages, confirms, commits, Result, Plays, rests, calls, cuts, cutsIn}
@@ -41,13 +41,13 @@ module _ (a r : ℕ) where
 barred-keeps : (j : Journal) (region : List ℕ) → record { out = barred j region .out; region = region; page = [] } ≡ barred j region
 unfolding barred
 barred-keeps j region =
-    let P : Left → Type 0 = λ l. record { out = l .out; region = region; page = [] } ≡ l in
+    let P : StepLeft → Type 0 = λ l. record { out = l .out; region = region; page = [] } ≡ l in
     on-device P j region [] _ (λ e. refl) (cond-case P (not (isNext 1 j)) (λ _. refl) (λ _. refl))
 
 committed-pageless : (j : Journal) (region : List ℕ) → record { out = committed j region .out; region = committed j region .region; page = [] } ≡ committed j region
 unfolding committed
 committed-pageless j region =
-    let P : Left → Type 0 = λ l. record { out = l .out; region = l .region; page = [] } ≡ l in
+    let P : StepLeft → Type 0 = λ l. record { out = l .out; region = l .region; page = [] } ≡ l in
     on-device P j region [] _ (λ e. refl) (cond-case P (not (isNext 2 j)) (λ _. refl) (λ _. refl))
 
 -- a journal is at hand
@@ -69,18 +69,18 @@ module _ (n a r : ℕ) (ok : allowed n a r ≡ true) where
       opens page (l .opening) (l .page) (opens-by refl)
   makes s (stage x page) i h =
       let p : Present (s .machine .held) = present s i (h .0) in
-      let f : Journal → Left = λ j. staged j (x .«record») (x .free) (s .machine .region) page in
+      let f : Journal → StepLeft = λ j. staged j (x .«record») (x .free) (s .machine .region) page in
       subst (λ q. Made a r (s .machine) (stage x page) (stepBy (s .machine) q f)) (sym (p .is))
       (stages (p .one) x page (f (p .one) .out) (f (p .one) .region) (f (p .one) .page) (p .is) (stages-by refl))
   makes s barrier i h =
       let p : Present (s .machine .held) = present s i h in
-      let f : Journal → Left = λ j. barred j (s .machine .region) in
+      let f : Journal → StepLeft = λ j. barred j (s .machine .region) in
       let k : record { out = f (p .one) .out; region = s .machine .region; page = [] } ≡ f (p .one) = barred-keeps (p .one) (s .machine .region) in
       subst (λ q. Made a r (s .machine) barrier (stepBy (s .machine) q f)) (sym (p .is))
       (subst (λ q. Made a r (s .machine) barrier (stepped (s .machine) q)) k (confirms (p .one) (f (p .one) .out) (p .is) (confirms-by k)))
   makes s commit i h =
       let p : Present (s .machine .held) = present s i h in
-      let f : Journal → Left = λ j. committed j (s .machine .region) in
+      let f : Journal → StepLeft = λ j. committed j (s .machine .region) in
       subst (λ q. Made a r (s .machine) commit (stepBy (s .machine) q f)) (sym (p .is))
       (commits (p .one) (f (p .one) .out) (f (p .one) .region) (p .is) (commits-by (committed-pageless (p .one) (s .machine .region))))
 

@@ -10,7 +10,8 @@ use lib.ListN.{length}
 use Rattle.core.proofs.Choice.{cond-case}
 use Rattle.core.specs.declared.error.Refusal.{Refusal}
 use Rattle.storage.specs.declared.geometry.Geometry.{Geometry}
-use Rattle.storage.specs.Settings.{allowed, programUnit, readUnit, Limits}
+use Rattle.storage.specs.Settings.{allowed, programUnit, readUnit}
+use Rattle.storage.specs.Inside.{Limits}
 use Rattle.storage.proofs.Units.{limits}
 use Rattle.roundtrip.specs.Typed.{AllBytes}
 use Rattle.place.specs.Walk.{plain, walk, Step, meets, stops as stopsAt, firstStep}

@@ -1,2 +1,3 @@
 -- The definition of the two checks.
 pub mod Fcs
+pub mod Inside

@@ -1,6 +1,7 @@
 -- The lines of a listing, in ASCII; 44 is a comma, 10 a line feed.
 use mathlib.Core.List.{List, [], _∷_, _++_}
 use Prim.Native.Nat.{ℕ}
+use Prim.Native.String.{String}
 use Rattle.core.specs.Kinds.{kindOf, seqOf}
 use Rattle.text.specs.Text.{codes, decimal}
 use Rattle.recovery.specs.declared.next.Ending.{Ending}
@@ -33,11 +34,15 @@ lastLine word x n b =
     ++ (field (answerRefusal (x .answer) .number) 44
     ++ totals n b))
 
+-- what a last line begins with
+abbrev pub endWord : String → List ℕ
+endWord word = codes "end," ++ (codes word ++ (44 ∷ []))
+
 -- the last line by the ending; a recovery that is open or incomplete has none
 abbrev pub endBy : Ending → Stepped → ℕ → ℕ → List ℕ
-endBy Clean x n b = lastLine (codes "end,clean,") x n b
-endBy Damaged x n b = lastLine (codes "end,damaged,") x n b
-endBy Unsealed x n b = lastLine (codes "end,unsealed,") x n b
+endBy Clean x n b = lastLine (endWord "clean") x n b
+endBy Damaged x n b = lastLine (endWord "damaged") x n b
+endBy Unsealed x n b = lastLine (endWord "unsealed") x n b
 endBy Incomplete x n b = []
 endBy Open x n b = []
 

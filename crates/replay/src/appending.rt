@@ -14,9 +14,9 @@ use append::step::Progress;
 use append::step::commit;
 use append::step::payload_barrier;
 use append::step::stage;
+use counts::WriteAmplification;
 use journal::Journal;
 use journal::Opening;
-use journal::WriteAmplification;
 use storage::geometry::Geometry;
 use storage::media::read;
 

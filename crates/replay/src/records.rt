@@ -5,8 +5,6 @@ use crate::values::le16;
 use crate::values::le32;
 use crate::values::le64;
 use crate::values::rest;
-use answers::decoded::NO_PART;
-use answers::decoded::read_as;
 use core::activity::ActivityKind;
 use core::id::EffectSeq;
 use core::record::Part;
@@ -15,6 +13,8 @@ use core::record::RecordKind;
 use core::record::RecordRef;
 use core::timer::ClockKind;
 use core::version::GateId;
+use numbers::decoded::NO_PART;
+use numbers::decoded::read_as;
 
 pub(crate) const RECORD_BYTES: usize = 38;
 

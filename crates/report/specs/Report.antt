@@ -50,6 +50,12 @@ listedRegion a r region =
     cond (ltb 32768 (length region)) refusedLine
     (listedWith region (settings (length region) a r))
 
+-- what is made of the bytes before the first byte b of s and of those behind it, or none where s has no such byte
+abbrev pub aroundFirst : {A : Type 0} → ℕ → List ℕ → A → (List ℕ → List ℕ → A) → A
+aroundFirst b s none parts =
+    let at = placeOf b s in
+    cond (eqb at (length s)) none (parts (take at s) (drop (at + 1) s))
+
 -- two numbers are two units
 abbrev pub givenBy : Number → Number → Units
 givenBy Bad y = NoUnits
@@ -58,9 +64,7 @@ givenBy (Value a) (Value r) = Given a r
 
 -- a line `a,r`: a number before the first comma, and one behind it
 unfoldable pub unitsOf : List ℕ → Units
-unitsOf line =
-    cond (eqb (placeOf 44 line) (length line)) NoUnits
-    (givenBy (numberOf (take (placeOf 44 line) line)) (numberOf (drop (placeOf 44 line + 1) line)))
+unitsOf line = aroundFirst 44 line NoUnits (λ x y. givenBy (numberOf x) (numberOf y))
 
 abbrev pub listedBy : List ℕ → Units → List ℕ
 listedBy region NoUnits = refusedLine
@@ -68,9 +72,7 @@ listedBy region (Given a r) = listedRegion a r region
 
 -- the listing of an input: its first line, which a line feed ends, says the units; what is behind it is the region
 unfoldable pub listing : List ℕ → List ℕ
-listing input =
-    cond (eqb (placeOf 10 input) (length input)) refusedLine
-    (listedBy (drop (placeOf 10 input + 1) input) (unitsOf (take (placeOf 10 input) input)))
+listing input = aroundFirst 10 input refusedLine (λ line region. listedBy region (unitsOf line))
 
 -- the promise of a listing: a text laid over the start of an output, what does not fit left out, and where it ends
 pub record Prints (text out : List ℕ) (n : ℕ) (out′ : List ℕ) : Type 0 where

@@ -7,7 +7,7 @@ use native.Mathlib.Omega.{arith}
 use lib.ListN.{length}
 use Rattle.stdio.specs.declared.Input.{Input}
 use Rattle.stdio.specs.declared.Input.the-variants.{Bytes, Failed}
-use Rattle.stdio.specs.Stdio.{cameOf, Reads}
+use Rattle.stdio.specs.Stdio.{cameOf, ReadsInput}
 
 -- the loop: room is left for so many of n bytes, and the buffer keeps its length
 pub record Reading (buf₀ buf : List ℕ) (n left : ℕ) : Type 0 where
@@ -19,17 +19,17 @@ pub reading-starts : (buf : List ℕ) → Reading buf buf (length buf) (length b
 reading-starts buf = record { within = omega arith; size = refl; same = refl }
 
 -- no byte came
-pub none-came : (buf : List ℕ) → Reads 0 buf Failed
+pub none-came : (buf : List ℕ) → ReadsInput 0 buf Failed
 none-came buf = record { within = omega arith }
 
 -- no room is left
-pub all-came : (buf₀ buf : List ℕ) (n left : ℕ) → Reading buf₀ buf n left → Reads 0 buf (Bytes n)
+pub all-came : (buf₀ buf : List ℕ) (n left : ℕ) → Reading buf₀ buf n left → ReadsInput 0 buf (Bytes n)
 all-came buf₀ buf n left t = record { within = omega (arith, t .size) }
 
 -- one more read, which left the buffer so
-module _ (buf₀ buf : List ℕ) (n left : ℕ) (t : Reading buf₀ buf n left) (buf′ : List ℕ) (x : Input) (p : Reads (n - left) buf′ x) (l : length buf′ ≡ length buf) where
+module _ (buf₀ buf : List ℕ) (n left : ℕ) (t : Reading buf₀ buf n left) (buf′ : List ℕ) (x : Input) (p : ReadsInput (n - left) buf′ x) (l : length buf′ ≡ length buf) where
   -- it ended the input
-  pub came-so-far : Reads 0 buf′ (Bytes (n - left))
+  pub came-so-far : ReadsInput 0 buf′ (Bytes (n - left))
   came-so-far = record { within = omega (arith, t .size, l) }
 
   module _ (k : ℕ) (e : x ≡ Bytes k) where

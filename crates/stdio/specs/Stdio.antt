@@ -12,5 +12,5 @@ cameOf (Bytes n) = n
 cameOf Failed = 0
 
 -- they lie in the buffer from a place on
-pub record Reads (from : ℕ) (buf : List ℕ) (x : Input) : Type 0 where
+pub record ReadsInput (from : ℕ) (buf : List ℕ) (x : Input) : Type 0 where
   pub within : cameOf x ≤ length buf - from

@@ -12,7 +12,8 @@ use lib.Seq.{drop-cons}
 use borrow.Author.Tests.{le-leb, lt-leb, eq-eqb, ne-eqb, lt-ltb, leb-true, leb-false}
 use Rattle.text.specs.declared.Number.{Number}
 use Rattle.text.specs.declared.Number.the-variants.{Value, Bad}
-use Rattle.text.specs.Text.{isDigit, allDigits, wellFormed, valueFrom, most, withDigit, readFrom, numberOf}
+use Rattle.text.specs.Text.{isDigit, allDigits, isDecimal, valueFrom, most, numberOf}
+use Rattle.text.specs.Inside.{withDigit, readFrom}
 
 -- one more digit, by the tests that the code makes
 module _ (v b : ℕ) where
@@ -105,20 +106,20 @@ read-end s v i h j = go ∙ sym (ap (readFrom v) (drop-of-length-le s h)) ∙ j 
 -- r: what the digits made
 module _ (s : List ℕ) where
   pub number-none : length s ≡ 0 → Bad ≡ numberOf s
-  unfolding numberOf wellFormed
+  unfolding numberOf isDecimal
   number-none e = rw e
 
   pub number-one : (r : Number) → length s ≡ 1 → r ≡ readFrom 0 s → r ≡ numberOf s
-  unfolding numberOf wellFormed readFrom
+  unfolding numberOf isDecimal readFrom
   number-one r e f = f ∙ rw (e, and-true)
 
   module _ (n0 : length s ≡ 0 → ⊥) (n1 : length s ≡ 1 → ⊥) where
     pub number-zero : getD s 0 0 ≡ 48 → Bad ≡ numberOf s
-    unfolding numberOf wellFormed
+    unfolding numberOf isDecimal
     number-zero e = rw (ne-eqb _ _ n1, eq-eqb _ _ e, and-false)
 
     pub number-more : (r : Number) → (getD s 0 0 ≡ 48 → ⊥) → r ≡ readFrom 0 s → r ≡ numberOf s
-    unfolding numberOf wellFormed readFrom
+    unfolding numberOf isDecimal readFrom
     number-more r n f = f ∙ rw (lt-ltb 0 (length s) (some n0), ne-eqb _ _ n1, ne-eqb _ _ n, and-true) where
       some : (length s ≡ 0 → ⊥) → 0 < length s
       some n = omega arith

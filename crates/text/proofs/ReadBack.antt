@@ -10,7 +10,8 @@ use lib.Dec.{eqb}
 use lib.ListN.{length, getD, length-append, List·getD-append}
 use borrow.Author.Tests.{le-leb, eqb-true, eqb-false}
 use Rattle.text.specs.declared.Number.the-variants.{Value}
-use Rattle.text.specs.Text.{digitsOf, decimal, isDigit, allDigits, valueFrom, valueOf, most, readFrom, numberOf}
+use Rattle.text.specs.Text.{digitsOf, decimal, isDigit, allDigits, valueFrom, valueOf, most, numberOf}
+use Rattle.text.specs.Inside.{readFrom}
 use Rattle.text.proofs.Digits.{digits-case}
 use Rattle.text.proofs.Numbers.{number-one, number-more}
 

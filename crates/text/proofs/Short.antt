@@ -11,12 +11,12 @@ use borrow.Author.Tests.{eqb-false, leb-true, not-true, ne-eqb}
 use Rattle.core.proofs.Choice.{cond-case}
 use Rattle.text.specs.declared.Number.{Number}
 use Rattle.text.specs.declared.Number.the-variants.{Value}
-use Rattle.text.specs.Text.{isDigit, allDigits, wellFormed, valueFrom, valueOf, most, numberOf}
+use Rattle.text.specs.Text.{isDigit, allDigits, isDecimal, valueFrom, valueOf, most, numberOf}
 use Rattle.text.proofs.Numbers.{value-grows}
 
 -- the first of two digits or more is no zero
-first-digit : (b c : ℕ) (s : List ℕ) → wellFormed (b ∷ c ∷ s) ≡ true → 48 < b
-unfolding wellFormed allDigits
+first-digit : (b c : ℕ) (s : List ℕ) → isDecimal (b ∷ c ∷ s) ≡ true → 48 < b
+unfolding isDecimal allDigits
 first-digit b c s e =
     let n : ℕ = length (b ∷ c ∷ s) in
     let p = and-eq-true-iff (ltb 0 n && (isDigit b && allDigits (c ∷ s))) (eqb n 1 || not (eqb b 48)) .0 e in
@@ -39,10 +39,10 @@ number-short (b ∷ c ∷ []) v e h = omega arith
 number-short (b ∷ c ∷ d ∷ []) v e h = omega arith
 number-short (b ∷ c ∷ d ∷ f ∷ []) v e h = omega arith
 number-short (b ∷ c ∷ d ∷ f ∷ g ∷ s) v e h =
-    cond-case (λ (x : Number). x ≡ Value v → length (b ∷ c ∷ d ∷ f ∷ g ∷ s) ≤ 4) (wellFormed (b ∷ c ∷ d ∷ f ∷ g ∷ s) && leb (valueOf (b ∷ c ∷ d ∷ f ∷ g ∷ s)) most)
+    cond-case (λ (x : Number). x ≡ Value v → length (b ∷ c ∷ d ∷ f ∷ g ∷ s) ≤ 4) (isDecimal (b ∷ c ∷ d ∷ f ∷ g ∷ s) && leb (valueOf (b ∷ c ∷ d ∷ f ∷ g ∷ s)) most)
     (λ t i.
     let same : valueOf (b ∷ c ∷ d ∷ f ∷ g ∷ s) ≡ v = cc in
-    let w = and-eq-true-iff (wellFormed (b ∷ c ∷ d ∷ f ∷ g ∷ s)) (leb (valueOf (b ∷ c ∷ d ∷ f ∷ g ∷ s)) most) .0 t .0 in
+    let w = and-eq-true-iff (isDecimal (b ∷ c ∷ d ∷ f ∷ g ∷ s)) (leb (valueOf (b ∷ c ∷ d ∷ f ∷ g ∷ s)) most) .0 t .0 in
     absurd (omega (arith, five-digits b c d f g s (first-digit b c (d ∷ f ∷ g ∷ s) w))))
     (λ t i. let z : _≡_ {A = ℕ} 0 1 = cc in absurd (omega arith))
     e

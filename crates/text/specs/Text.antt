@@ -48,11 +48,11 @@ unfoldable pub placeOf : ℕ → List ℕ → ℕ
 placeOf b [] = 0
 placeOf b (x ∷ xs) = cond (eqb x b) 0 (suc (placeOf b xs))
 
--- r is that place; that it lies within s is said in the two ways that a part `&s[..r]` asks for
-pub record Place (b : ℕ) (s : List ℕ) (r : ℕ) : Type 0 where
-  pub all : r ≡ placeOf b s
-  pub within : r ≤ length s
-  pub part : r ≡ length (take r s)
+-- n is that place; that it lies within s is said in the two ways that a part `&s[..n]` asks for
+pub record Place (b : ℕ) (s : List ℕ) (n : ℕ) : Type 0 where
+  pub all : n ≡ placeOf b s
+  pub within : n ≤ length s
+  pub part : n ≡ length (take n s)
 
 -- the byte is `0` to `9`
 abbrev pub isDigit : ℕ → Bool
@@ -64,8 +64,8 @@ allDigits [] = true
 allDigits (b ∷ bs) = isDigit b && allDigits bs
 
 -- one or more digits, of which the first is no zero unless it is alone
-unfoldable pub wellFormed : List ℕ → Bool
-wellFormed s = ltb 0 (length s) && allDigits s && (eqb (length s) 1 || not (eqb (getD s 0 0) 48))
+unfoldable pub isDecimal : List ℕ → Bool
+isDecimal s = ltb 0 (length s) && allDigits s && (eqb (length s) 1 || not (eqb (getD s 0 0) 48))
 
 -- the number that digits make behind the digits of v, of any size
 unfoldable pub valueFrom : ℕ → List ℕ → ℕ
@@ -80,14 +80,6 @@ valueOf s = valueFrom 0 s
 abbrev pub most : ℕ
 most = 18446744073709551615
 
--- v with one more digit b behind its own, where 64 bits hold it
-unfoldable pub withDigit : ℕ → ℕ → Number
-withDigit v b = cond (isDigit b && leb (v * 10 + (b - 48)) most) (Value (v * 10 + (b - 48))) Bad
-
--- the number that digits make behind those of v, where 64 bits hold it
-unfoldable pub readFrom : ℕ → List ℕ → Number
-readFrom v s = cond (allDigits s && leb (valueFrom v s) most) (Value (valueFrom v s)) Bad
-
 -- the number that a text is: well formed, and 64 bits hold it
 unfoldable pub numberOf : List ℕ → Number
-numberOf s = cond (wellFormed s && leb (valueOf s) most) (Value (valueOf s)) Bad
+numberOf s = cond (isDecimal s && leb (valueOf s) most) (Value (valueOf s)) Bad

@@ -2,7 +2,8 @@
 ghost use mathlib.Core.Path.{_≡_};
 ghost use mathlib.Core.List.{[], _∷_, _++_};
 ghost use Prim.Native.Nat.{min};
-ghost use Rattle.text.specs.Text.{decimal, Puts, Place, withDigit, readFrom, numberOf};
+ghost use Rattle.text.specs.Text.{decimal, Puts, Place, numberOf};
+ghost use Rattle.text.specs.Inside.{withDigit, readFrom};
 
 pub enum Number {
     Value(u64),
