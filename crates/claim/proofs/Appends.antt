@@ -16,7 +16,7 @@ use Rattle.storage.proofs.ErasedBytes.{erased-is}
 use Rattle.frame.specs.Bytes.{bytesLE, valueLE, valueAt}
 use Rattle.frame.proofs.Sizes.{body-mono, body-least}
 use Rattle.frame.specs.Lengths.{bodyLen, recordLen}
-use Rattle.frame.specs.Format.{sealedHeader, headerOf, coveredOf, checkOf, frameOf, paddingOf, bodyOf, recordOf, sealFrom, sealOf, sealHolds}
+use Rattle.frame.specs.Format.{numbersOf, sealedHeader, headerOf, coveredOf, checkOf, frameOf, paddingOf, bodyOf, recordOf, sealFrom, sealOf, sealHolds}
 use Rattle.frame.proofs.Seal.{seal-byte-lt}
 use Rattle.seal.proofs.Seals.{seal-length, holds-is, erased-no-seal}
 use Rattle.encode.specs.Encode.{encodedBytes}
@@ -25,11 +25,12 @@ use Rattle.decode.specs.declared.Header.the-variants.{Verified, Refused as NoHe
 use Rattle.decode.specs.declared.VerifiedHeader.{VerifiedHeader}
 use Rattle.decode.specs.Decode.{headerAt}
 use Rattle.payload.specs.Payload.{part}
+use Rattle.payload.proofs.Known.{known-says}
 use Rattle.place.specs.declared.Stand.the-variants.{Met}
 use Rattle.place.specs.Stands.{stands}
 use Rattle.roundtrip.specs.Typed.{AllBytes, Typed}
 use Rattle.roundtrip.proofs.Lists.{bytes-append, number-bytes, covered-bytes, payload-bytes}
-use Rattle.roundtrip.proofs.Frames.{payload-size, payload-small, payload-back}
+use Rattle.roundtrip.proofs.Frames.{payload-size, payload-small, payload-back, kind-known}
 use Rattle.roundtrip.proofs.RoundTrip.{Taken, body-length, encoded-length}
 use Rattle.append.specs.Append.{checkFor, bodyFor}
 use Rattle.claim.specs.Cuts.{Mixed, Cut}
@@ -319,13 +320,14 @@ module _ (a : ℕ) (h : 0 < a) (base r : List ℕ) (o : ℕ) (x : Given) (bs : L
   with-record : Passes a (f ++ (body ++ seal)) (bs ++ (x ∷ []))
   unfolding given recordLen
   with-record =
+      let says = known-says (x .«record» .kind .0) (x .«record» .seq .0) (numbersOf (x .«record»)) p (kind-known (x .«record») (x .free) (v .taken .size) typed (v .taken .taken)) in
       passes-both a f (body ++ seal) bs (x ∷ []) (v .ready .passes)
-      (passes-found a h (body ++ seal) x
+      (passes-found a h (body ++ seal) x (says .one) (says .is)
       (λ rest.
       let l : recordLen a p ≡ length (body ++ seal) = sym record-long in
       ap (λ s. stands a (s ++ rest)) record-is
-      ∙ looked-whole a h (x .«record») (x .free) (v .taken) rest
-      ∙ ap (λ m. Met (record { «record» = given x .«record»; payload = part 12 p; len = m })) l)
+      ∙ looked-whole a h (x .«record») (x .free) (v .taken) (says .one) (says .is) rest
+      ∙ ap (λ m. Met (record { «record» = says .one; payload = part 12 p; len = m })) l)
       payload-there (omega (arith, record-long, body-least a p h)))
 
   -- a region with the whole record, and erased from there on

@@ -20,6 +20,8 @@ use Rattle.frame.specs.Lengths.{frameLen, bodyLen, recordLen}
 use Rattle.frame.specs.Format.{numbersOf, payloadOf, frameOf, paddingOf, bodyOf, recordOf, sealOf, sealHolds}
 use Rattle.seal.proofs.Seals.{seal-length, seal-holds, erased-no-seal}
 use Rattle.encode.specs.Encode.{encodedBytes}
+use Rattle.core.specs.declared.«record».RecordRef.{RecordRef}
+use Rattle.payload.specs.declared.Decoded.the-variants.{Record as Known}
 use Rattle.payload.specs.Payload.{part, recordWith}
 use Rattle.decode.specs.declared.VerifiedHeader.{VerifiedHeader}
 use Rattle.decode.specs.declared.Header.{Header}
@@ -208,11 +210,11 @@ module _ (a : ℕ) where
           (ap erased (drop-at (own slot) rest (length (own slot)) refl) ∙ i))
 
       -- A whole record is found, as it was given, whatever follows it.
-      pub looked-whole : (rest : List ℕ)
+      pub looked-whole : (y : RecordRef) → recordWith (x .kind .0) (x .seq .0) (numbersOf x) (length (payloadOf x free)) ≡ Known y → (rest : List ℕ)
           → stands a (encodedBytes a x free ++ rest)
-          ≡ Met (record { «record» = recordWith (x .kind .0) (x .seq .0) (numbersOf x) (length (payloadOf x free)); payload = part 12 (length (payloadOf x free)); len = recordLen a (length (payloadOf x free)) })
+          ≡ Met (record { «record» = y; payload = part 12 (length (payloadOf x free)); len = recordLen a (length (payloadOf x free)) })
       unfolding encodedBytes recordOf settled frameGiven
-      looked-whole rest =
+      looked-whole y e rest =
           let c : ℕ = checkFor x free in
           let l : length (sealOf a c) ≡ a = seal-length 0 a c in
-          own-stands (sealOf a c) l rest ∙ rw (own-slot (sealOf a c) l, seal-holds c a h, own-length (sealOf a c) l)
+          own-stands (sealOf a c) l rest ∙ rw (own-slot (sealOf a c) l, seal-holds c a h, own-length (sealOf a c) l, e)

@@ -1,6 +1,6 @@
 -- What a walk finds on the way: a front that it passes, and what an erased or a calm tail behind it ends in.
 -- Assumes nothing.
-use mathlib.Core.Path.{_≡_, refl, sym, ap, subst, subst₂, subst⁻¹, _∙_}
+use mathlib.Core.Path.{_≡_, refl, sym, ap, ap₂, subst, subst₂, subst⁻¹, _∙_}
 use mathlib.Core.Bool.{true, and-eq-true-iff}
 use mathlib.Core.List.{List, [], _∷_, _++_, append-assoc, append-nil}
 use Prim.Native.Nat.{ℕ, _+_, _-_, _≤_, _<_}
@@ -11,6 +11,9 @@ use lib.Seq.{length-take-le, take-append-le, drop-append-le, drop-append-seam, d
 use Rattle.core.proofs.Choice.{cond-case}
 use Rattle.storage.specs.Media.{erased}
 use Rattle.storage.proofs.ErasedBytes.{erased-append}
+use Rattle.core.specs.declared.«record».RecordRef.{RecordRef}
+use Rattle.payload.specs.declared.Decoded.{Decoded}
+use Rattle.payload.specs.declared.Decoded.the-variants.{Record as Known}
 use Rattle.payload.specs.Payload.{part}
 use Rattle.place.specs.declared.Stop.{Stop}
 use Rattle.place.specs.declared.Stop.the-variants.{End, Bad, NoSeal, TooSmall}
@@ -114,11 +117,11 @@ module _ (a : ℕ) (h : 0 < a) where
       walk-on (plain a) (plain-steady a h) region o ∙ ap (λ y. onward o y (λ n. walk (plain a) region (o + n))) (ap (stands a) d ∙ e)
 
   -- a record that stands found at the start of s, whatever follows, is passed and says what it was given to say
-  pub passes-found : (s : List ℕ) (x : Given)
-      → ((rest : List ℕ) → stands a (s ++ rest) ≡ Met (record { «record» = given x .«record»; payload = part 12 (length (payloadFor x)); len = length s }))
+  pub passes-found : (s : List ℕ) (x : Given) (y : RecordRef) → given x .«record» ≡ Known y
+      → ((rest : List ℕ) → stands a (s ++ rest) ≡ Met (record { «record» = y; payload = part 12 (length (payloadFor x)); len = length s }))
       → take (length (payloadFor x)) (drop 12 s) ≡ payloadFor x → 12 + length (payloadFor x) ≤ length s → Passes a s (x ∷ [])
   unfolding allGiven allSaidIn saidIn given
-  passes-found s x f p l = record { over = one } where
+  passes-found s x y i f p l = record { over = one } where
     one : (pre rest : List ℕ) → Follows (pre ++ (s ++ rest)) (x ∷ []) (walk (plain a) (pre ++ (s ++ rest)) (length pre)) (walk (plain a) (pre ++ (s ++ rest)) (length pre + length s))
     one pre rest =
         let R : List ℕ = pre ++ (s ++ rest) in
@@ -130,7 +133,7 @@ module _ (a : ℕ) (h : 0 < a) where
         let later : List Said = allSaidIn R (found (walk (plain a) R (length pre + length s) .way)) in
         let e = turn R (length pre) (s ++ rest) _ (drop-append-seam pre (s ++ rest)) (f rest) in
         record {
-          says = ap (λ c. allSaidIn R (found (c .way))) e ∙ ap (λ (b : List ℕ). record { «record» = given x .«record»; payload = b } ∷ later) bytes;
+          says = ap (λ c. allSaidIn R (found (c .way))) e ∙ ap₂ (λ (d : Decoded) (b : List ℕ). record { «record» = d; payload = b } ∷ later) (sym i) bytes;
           at = ap (λ c. c .at) e;
           stop = ap (λ c. c .stop) e;
         }

@@ -28,6 +28,7 @@ use Rattle.recovery.proofs.Near.{laid-long}
 use Rattle.finish.specs.Finish.{founds}
 use Rattle.finish.proofs.Steps.{Rests, After, run-step, found-less}
 use Rattle.finish.proofs.Walks.{page-free}
+use Rattle.payload.specs.declared.Decoded.the-variants.{Record as Known}
 use Rattle.claim.specs.Saying.{Said}
 use Rattle.claim.specs.Events.{Large}
 use Rattle.claim.specs.Promised.{later, Reads, finds, ends, stops}
@@ -72,7 +73,7 @@ found-refused e = let z : _≡_ {A = ℕ} 0 1 = cc in absurd (omega arith)
 
 -- the same record, with the same payload, and the same behind it
 same-said : (f h : Record) (v w : List ℕ) (us vs : List Said) → f ≡ h → v ≡ w → us ≡ vs
-    → record { «record» = f .«record» .«record»; payload = v } ∷ us ≡ record { «record» = h .«record» .«record»; payload = w } ∷ vs
+    → record { «record» = Known (f .«record» .«record»); payload = v } ∷ us ≡ record { «record» = Known (h .«record» .«record»); payload = w } ∷ vs
 same-said f h v w us vs a b c = rw (a, b, c)
 
 -- a caller reads one thing only

@@ -16,6 +16,7 @@ use Rattle.core.specs.declared.«record».RecordRef.the-variants.{RunCompleted,
 use Rattle.storage.specs.Media.{programmed}
 use Rattle.frame.specs.Lengths.{bodyLen}
 use Rattle.frame.specs.Format.{sealOf}
+use Rattle.payload.specs.declared.Decoded.the-variants.{Record as Known}
 use Rattle.payload.specs.Payload.{part}
 use Rattle.recovery.specs.Next.{fresh}
 use Rattle.append.specs.Append.{checkFor, bodyFor}
@@ -184,7 +185,7 @@ marker = giving 9 4 12 65535 0 []
 
 -- what they are read as: the kind's numbers, and the payload's bytes
 abbrev pub said : RecordRef → List ℕ → Said
-said x payload = record { «record» = x; payload = payload }
+said x payload = record { «record» = Known x; payload = payload }
 
 abbrev pub nine : List Given
 nine =
