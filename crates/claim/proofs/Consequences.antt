@@ -16,7 +16,7 @@ use Rattle.journal.specs.declared.Opening.the-variants.{Opened}
 use Rattle.journal.specs.Opening.{OpenLeft, opened}
 use Rattle.journal.proofs.Openings.{opens-by}
 use Rattle.claim.specs.Saying.{Given, Said, given, allGiven}
-use Rattle.claim.specs.Events.{commit, Event, call, unrefused, done, under, State, step, run, start, Large}
+use Rattle.claim.specs.Events.{commit, Event, call, unrefused, done, under, State, afterEvent, run, start, Large}
 use Rattle.claim.specs.Promised.{Reads}
 use Rattle.claim.specs.Claim.{Kept, units, after, Claim}
 use Rattle.claim.proofs.Said.{allSaidIn}
@@ -62,7 +62,7 @@ module _ (n a r : ℕ) (es : List Event) (claim : Claim n a r es) where
 
 -- a commit's record is in the book after the commit and any further events of a list that demand 3 speaks of
 pub committed-found : (n a r : ℕ) (es fs : List Event) → Claim n a r (es ++ (call commit ∷ fs)) → done a r (after n a r es .machine) commit .verdict ≡ unrefused
-    → Kept (after n a r es) (run a r (step a r (after n a r es) (call commit)) fs .book .records)
+    → Kept (after n a r es) (run a r (afterEvent a r (after n a r es) (call commit)) fs .book .records)
 unfolding run
 committed-found n a r es fs claim went =
     subst (λ t. Kept (after n a r es) (t .book .records)) (run-append a r (start n) es (call commit ∷ fs)) (claim .has-committed es fs refl went)

@@ -10,7 +10,7 @@ use Rattle.storage.specs.Settings.{allowed}
 use Rattle.journal.specs.declared.Journal.{Journal}
 use Rattle.append.specs.Append.{isNext, committed}
 use Rattle.claim.specs.Saying.{Given}
-use Rattle.claim.specs.Events.{Call, opening, stage, barrier, commit, Event, call, cut, cutIn, holds, Machine, machine, Verdict, unrefused, refusedWith, stepped, done, Way, nothing, under, Book, appended, told, toldCut, State, sealedIn, step, run, Valid, start}
+use Rattle.claim.specs.Events.{Call, opening, stage, barrier, commit, Event, call, cut, cutIn, holds, Machine, machine, Verdict, unrefused, refusedWith, stepped, done, Way, nothing, under, Book, appended, told, toldCut, State, sealedIn, afterEvent, run, Valid, start}
 use Rattle.claim.specs.Claim.{Kept, after}
 use Rattle.claim.proofs.Invariant.{on-device, idle, at, Inv, lost-inv, ready-inv, staged-inv, firm-inv, inv-after}
 
@@ -46,8 +46,8 @@ unrefused-refused : {A : Type 0} {e : Refusal} → refusedWith e ≡ unrefused �
 unrefused-refused f = let z : _≡_ {A = ℕ} 0 1 = cc in absurd (omega arith)
 
 module _ (a r : ℕ) where
-  grows-step : (s : State) (e : Event) → Grows (s .book .records) (step a r s e .book .records)
-  unfolding step
+  grows-step : (s : State) (e : Event) → Grows (s .book .records) (afterEvent a r s e .book .records)
+  unfolding afterEvent
   grows-step s (call c) = grows-told (s .book) c (done a r (s .machine) c .verdict)
   grows-step s (cut t) = grows-none (s .book .records)
   grows-step s (cutIn c t) = grows-cut (s .book) (sealedIn a s c t)
@@ -55,37 +55,37 @@ module _ (a r : ℕ) where
   grows : (s : State) (es : List Event) → Grows (s .book .records) (run a r s es .book .records)
   unfolding run
   grows s [] = grows-none (s .book .records)
-  grows s (e ∷ es) = grows-more (s .book .records) (step a r s e .book .records) (run a r (step a r s e) es .book .records) (grows-step s e) (grows (step a r s e) es)
+  grows s (e ∷ es) = grows-more (s .book .records) (afterEvent a r s e .book .records) (run a r (afterEvent a r s e) es .book .records) (grows-step s e) (grows (afterEvent a r s e) es)
 
   -- a list played in two parts
   pub run-append : (s : State) (es fs : List Event) → run a r s (es ++ fs) ≡ run a r (run a r s es) fs
   unfolding run
   run-append s [] fs = refl
-  run-append s (e ∷ es) fs = run-append (step a r s e) es fs
+  run-append s (e ∷ es) fs = run-append (afterEvent a r s e) es fs
 
   pub valid-front : (s : State) (es fs : List Event) → Valid a r s (es ++ fs) → Valid a r s es
   valid-front s [] fs h = tt
-  valid-front s (e ∷ es) fs h = (h .0, valid-front (step a r s e) es fs (h .1))
+  valid-front s (e ∷ es) fs h = (h .0, valid-front (afterEvent a r s e) es fs (h .1))
 
   kept : (s : State) (gs : List Event) (x : Given) → s .book .way ≡ under x → done a r (s .machine) commit .verdict ≡ unrefused
-      → Kept s (run a r (step a r s (call commit)) gs .book .records)
-  unfolding step
+      → Kept s (run a r (afterEvent a r s (call commit)) gs .book .records)
+  unfolding afterEvent
   kept s gs x e w =
-      let t : State = step a r s (call commit) in
+      let t : State = afterEvent a r s (call commit) in
       let last : t .book .records ≡ s .book .records ++ (x ∷ []) = rw (w, e) in
       let g : Grows (t .book .records) (run a r t gs .book .records) = grows t gs in
       record { one = x; way = e; behind = g .more; is = g .is ∙ ap (λ l. l ++ g .more) last ∙ append-assoc (s .book .records) (x ∷ []) (g .more) }
 
 module _ (n a r : ℕ) (ok : allowed n a r ≡ true) where
   -- a commit that goes through has a record under way
-  goes-through : (s : State) (gs : List Event) → Inv n a r ok s → done a r (s .machine) commit .verdict ≡ unrefused → Kept s (run a r (step a r s (call commit)) gs .book .records)
+  goes-through : (s : State) (gs : List Event) → Inv n a r ok s → done a r (s .machine) commit .verdict ≡ unrefused → Kept s (run a r (afterEvent a r s (call commit)) gs .book .records)
   unfolding committed isNext
   goes-through s gs (lost-inv u bs x v) = unrefused-refused
   goes-through s gs (ready-inv u o w bs x v) =
       let j : Journal = idle n a r ok o w in
       let m : Machine = machine u u (holds j) in
       let t : State = at n a r ok m true nothing bs in
-      on-device (λ l. stepped m l .verdict ≡ unrefused → Kept t (run a r (step a r t (call commit)) gs .book .records)) j u [] _ (λ e. unrefused-refused) unrefused-refused
+      on-device (λ l. stepped m l .verdict ≡ unrefused → Kept t (run a r (afterEvent a r t (call commit)) gs .book .records)) j u [] _ (λ e. unrefused-refused) unrefused-refused
   goes-through s gs (staged-inv base u o y w bs z x v) = kept a r s gs y refl
   goes-through s gs (firm-inv base u o y w bs x v) = kept a r s gs y refl
 

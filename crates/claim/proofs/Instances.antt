@@ -34,7 +34,7 @@ use Rattle.journal.specs.Opening.{openingOf}
 use Rattle.append.specs.Append.{unitOf, roomOf, stagedWith, asStaged, onDevice, underWay, begins, staged, isNext, confirmed, barred, afterCommit, committed}
 use Rattle.claim.specs.Cuts.{bit, Mixed, Cut}
 use Rattle.claim.specs.Saying.{Given, given, allGiven}
-use Rattle.claim.specs.Events.{Call, opening, stage, barrier, commit, Event, call, cut, cutIn, Held, none, holds, Machine, Verdict, Outcome, afterOpening, stepped, stepBy, done, Way, nothing, under, Book, told, State, sealedIn, called, cutOff, step, run, verdicts, Large, Stands, StandsCut, Allows, Valid, start}
+use Rattle.claim.specs.Events.{Call, opening, stage, barrier, commit, Event, call, cut, cutIn, Held, none, holds, Machine, Verdict, Outcome, afterOpening, stepped, stepBy, done, Way, nothing, under, Book, told, State, sealedIn, called, cutOff, afterEvent, run, verdicts, Large, Stands, StandsCut, Allows, Valid, start}
 use Rattle.claim.specs.Promised.{Reads}
 use Rattle.claim.specs.Claim.{Exactly, units, after}
 use Rattle.claim.proofs.Bits.{bit-and}
@@ -279,7 +279,7 @@ module _ (page : List ℕ) (h : Large page) where
 
   -- a call, and a cut, that may stand in s and lead to t
   after-call : (s t : State) (c : Call) (v : Verdict) (es : List Event) (b : Bool) (z : Trace) → Stands (s .book) c → done 4 1 (s .machine) c .verdict ≡ v
-      → step 4 1 s (call c) ≡ t → Says t es z → Says s (call c ∷ es) (checked b (answered v z))
+      → afterEvent 4 1 s (call c) ≡ t → Says t es z → Says s (call c ∷ es) (checked b (answered v z))
   unfolding run verdicts
   after-call s t c v es b z a e f y =
       record {
@@ -288,8 +288,8 @@ module _ (page : List ℕ) (h : Large page) where
         leaves = ap (λ u. run 4 1 u es .book) f ∙ y .leaves;
       }
 
-  after-cut : (s t : State) (e : Event) (es : List Event) (b : Bool) (z : Trace) → verdicts 4 1 s (e ∷ es) ≡ verdicts 4 1 (step 4 1 s e) es → Allows 4 1 s e
-      → step 4 1 s e ≡ t → Says t es z → Says s (e ∷ es) (checked b z)
+  after-cut : (s t : State) (e : Event) (es : List Event) (b : Bool) (z : Trace) → verdicts 4 1 s (e ∷ es) ≡ verdicts 4 1 (afterEvent 4 1 s e) es → Allows 4 1 s e
+      → afterEvent 4 1 s e ≡ t → Says t es z → Says s (e ∷ es) (checked b z)
   unfolding run
   after-cut s t e es b z silent a f y =
       record {
@@ -300,14 +300,14 @@ module _ (page : List ℕ) (h : Large page) where
 
   -- a list that the test passes is valid, and comes to what the test says
   traced-says : (s : State) (es : List Entry) → Inv 64 4 1 allows s → traced s es .valid ≡ true → Says s (events page es) (traced s es)
-  unfolding traced step run verdicts
+  unfolding traced afterEvent run verdicts
   traced-says s [] i e = record { valid = _; comes = refl; leaves = refl }
   traced-says s (does c v ∷ es) i e =
       let o : Outcome = plainly (s .machine) c in
       let both = and-eq-true-iff (mayStand (s .book) c) (traced (called s c o) es .valid) .0 e in
       let d : done 4 1 (s .machine) (lent page c) ≡ o = done-plainly (s .machine) (sound-of 64 4 1 allows s i) (fits-of s i) c in
       let a : Stands (s .book) (lent page c) = stand-is (s .book) c (both .0) in
-      let f : step 4 1 s (call (lent page c)) ≡ called s c o =
+      let f : afterEvent 4 1 s (call (lent page c)) ≡ called s c o =
       ap (called s (lent page c)) d ∙ ap (λ b. record { machine = o .leaves; book = b }) (told-lent (s .book) c (o .verdict)) in
       after-call s (called s c o) (lent page c) (o .verdict) (events page es) (mayStand (s .book) c) (traced (called s c o) es) a (ap (λ y. y .verdict) d) f
       (traced-says (called s c o) es (subst (Inv 64 4 1 allows) f (keeps 64 4 1 allows s (call (lent page c)) i a)) (both .1))
@@ -325,7 +325,7 @@ module _ (page : List ℕ) (h : Large page) where
       let d : done 4 1 (s .machine) (lent page c) ≡ o = done-plainly (s .machine) (sound-of 64 4 1 allows s i) (fits-of s i) c in
       let a : Allows 4 1 s (cutIn (lent page c) t) =
       (cut-stand-is (s .book) c (here .0), subst (λ y. Cut (s .machine .base) (y .leaves .region) t) (sym d) (cut-is (s .machine .base) (o .leaves .region) t (here .1))) in
-      let f : step 4 1 s (cutIn (lent page c) t) ≡ u = ap (λ b. cutOff s b t) (sealed-lent s c t) in
+      let f : afterEvent 4 1 s (cutIn (lent page c) t) ≡ u = ap (λ b. cutOff s b t) (sealed-lent s c t) in
       after-cut s u (cutIn (lent page c) t) (events page es) (mayBeCut (s .book) c && leaves) (traced u es) refl a f
       (traced-says u es (subst (Inv 64 4 1 allows) f (keeps 64 4 1 allows s (cutIn (lent page c) t) i a)) (both .1))
 

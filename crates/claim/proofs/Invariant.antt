@@ -41,7 +41,7 @@ use Rattle.append.specs.Append.{unitOf, StepLeft, keeps as refusing, checkFor, 
 use Rattle.counts.specs.Counts.{counts, unwritten as nothingWritten, plus}
 use Rattle.claim.specs.Cuts.{Cut}
 use Rattle.claim.specs.Saying.{Given, payloadFor, allGiven}
-use Rattle.claim.specs.Events.{Call, opening, stage, barrier, commit, Event, call, cut, cutIn, Held, none, holds, Machine, machine, refusedWith, Outcome, outcome, afterOpening, stepped, done, Torn, TornIn, lost, Way, nothing, under, wholeSeal, sealedIn, State, called, cutOff, step, run, Large, Stands, Allows, Valid, start}
+use Rattle.claim.specs.Events.{Call, opening, stage, barrier, commit, Event, call, cut, cutIn, Held, none, holds, Machine, machine, refusedWith, Outcome, outcome, afterOpening, stepped, done, Torn, TornIn, lost, Way, nothing, under, wholeSeal, sealedIn, State, called, cutOff, afterEvent, run, Large, Stands, Allows, Valid, start}
 use Rattle.claim.specs.Claim.{units, after}
 use Rattle.claim.proofs.Said.{allSaidIn}
 use Rattle.claim.proofs.Tears.{replicate-bytes, cut-same, cut-bytes}
@@ -349,8 +349,8 @@ module _ (n a r : ℕ) (ok : allowed n a r ≡ true) where
   commit-inv s (firm-inv base u o y w bs x v) h = firm-commit base u o y w bs x v
 
   -- every event keeps the invariant
-  pub keeps : (s : State) (e : Event) → Inv s → Allows a r s e → Inv (step a r s e)
-  unfolding step
+  pub keeps : (s : State) (e : Event) → Inv s → Allows a r s e → Inv (afterEvent a r s e)
+  unfolding afterEvent
   keeps s (call (opening page)) i h = opening-inv s page i (h .0) (h .1)
   keeps s (call (stage q page)) i h = stage-inv s q page i h .kept
   keeps s (call barrier) i h = barrier-inv s i h .kept
@@ -364,7 +364,7 @@ module _ (n a r : ℕ) (ok : allowed n a r ≡ true) where
   pub holds-after : (s : State) (es : List Event) → Inv s → Valid a r s es → Inv (run a r s es)
   unfolding run
   holds-after s [] i h = i
-  holds-after s (e ∷ es) i h = holds-after (step a r s e) es (keeps s e i (h .0)) (h .1)
+  holds-after s (e ∷ es) i h = holds-after (afterEvent a r s e) es (keeps s e i (h .0)) (h .1)
 
   pub at-first : Inv (start n)
   at-first =

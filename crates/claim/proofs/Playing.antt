@@ -11,7 +11,7 @@ use Rattle.journal.specs.Opening.{opened}
 use Rattle.journal.proofs.Openings.{opens-by}
 use Rattle.append.specs.Append.{StepLeft, isNext, staged, barred, committed}
 use Rattle.append.proofs.Onward.{stages-by, confirms-by, commits-by}
-use Rattle.claim.specs.Events.{Call, opening, stage, barrier, commit, Event, call, cut, cutIn, Held, holds, Machine, Outcome, afterOpening, stepped, stepBy, done, State, sealedIn, called, cutOff, step, run, verdicts, Stands, Valid}
+use Rattle.claim.specs.Events.{Call, opening, stage, barrier, commit, Event, call, cut, cutIn, Held, holds, Machine, Outcome, afterOpening, stepped, stepBy, done, State, sealedIn, called, cutOff, afterEvent, run, verdicts, Stands, Valid}
 use Rattle.claim.specs.Promised.{Made, opens, stages, confirms, commits, Result, Plays, rests, calls, cuts, cutsIn}
 use Rattle.claim.specs.Claim.{Exactly}
 use Rattle.claim.proofs.Invariant.{on-device, Inv, lost-inv, ready-inv, staged-inv, firm-inv, keeps}
@@ -29,7 +29,7 @@ module _ (a r : ℕ) where
   defined s es = record { verdicts = verdicts a r s es; state = run a r s es }
 
   plays-defined : (s : State) (es : List Event) (z : Result) → Plays a r s es z → z ≡ defined s es
-  unfolding step run verdicts
+  unfolding afterEvent run verdicts
   plays-defined _ _ _ (rests s) = refl
   plays-defined _ _ _ (calls s c o es z k p) =
       ap (λ (x : Result). record { verdicts = o .verdict ∷ x .verdicts; state = x .state }) (plays-defined (called s c o) es z p)
@@ -86,7 +86,7 @@ module _ (n a r : ℕ) (ok : allowed n a r ≡ true) where
 
   -- so a list that demand 3 speaks of can be played
   plays : (s : State) (es : List Event) → Inv n a r ok s → Valid a r s es → Plays a r s es (defined a r s es)
-  unfolding step run verdicts
+  unfolding afterEvent run verdicts
   plays s [] i h = rests s
   plays s (call c ∷ es) i h =
       let o : Outcome = done a r (s .machine) c in

@@ -14,7 +14,7 @@ use Rattle.storage.specs.Settings.{allowed, programUnit, readUnit}
 use Rattle.storage.specs.Inside.{Limits}
 use Rattle.storage.proofs.Units.{limits}
 use Rattle.roundtrip.specs.Typed.{AllBytes}
-use Rattle.place.specs.Walk.{plain, walk, Step, meets, stops as stopsAt, firstStep}
+use Rattle.place.specs.Walk.{plain, walk, Step, meets, stops, firstStep}
 use Rattle.recovery.specs.declared.next.Stepped.{Stepped}
 use Rattle.recovery.specs.declared.next.Recovery.{Recovery}
 use Rattle.recovery.specs.declared.next.Found.{Found as Record}
@@ -31,7 +31,7 @@ use Rattle.finish.proofs.Walks.{page-free}
 use Rattle.payload.specs.declared.Decoded.the-variants.{Record as Known}
 use Rattle.claim.specs.Saying.{Said}
 use Rattle.claim.specs.Events.{Large}
-use Rattle.claim.specs.Promised.{later, Reads, finds, ends, stops}
+use Rattle.claim.specs.Promised.{later, Reads, readsFound, readsEnd, readsRefusal}
 use Rattle.claim.specs.Claim.{Exactly}
 use Rattle.claim.proofs.Said.{saidIn, allSaidIn}
 use Rattle.claim.proofs.Paged.{payload-paged}
@@ -44,7 +44,7 @@ record Keeps (s : Recovery) (p : List ℕ) (d : Done) : Type 0 where
 
 arrived-geometry : (s : Recovery) (z : Step) → arrived s z .state .geometry ≡ s .geometry
 arrived-geometry s (meets o x) = refl
-arrived-geometry s (stopsAt o e) = refl
+arrived-geometry s (stops o e) = refl
 
 step-keeps : (s : Recovery) (region p : List ℕ) → Keeps s p (step s region p)
 unfolding step before pageAfter
@@ -78,21 +78,21 @@ same-said f h v w us vs a b c = rw (a, b, c)
 
 -- a caller reads one thing only
 reads-one : (region : List ℕ) (s : Recovery) (pages : ℕ → List ℕ) (xs ys : List Said) → Reads region s pages xs → Reads region s pages ys → xs ≡ ys
-reads-one region _ _ _ _ (finds s pages x q f v us k i e t) (finds _ _ y q₂ h w vs l j d u) =
+reads-one region _ _ _ _ (readsFound s pages x q f v us k i e t) (readsFound _ _ y q₂ h w vs l j d u) =
     let both = same-done region s (pages 0) x y q q₂ k l in
     let found : Found f ≡ Found h = sym i ∙ ap (λ (z : Done). z .out .answer) both ∙ j in
     let page : q ≡ q₂ = ap (λ (z : Done). z .page) both in
     let fh : f ≡ h = cc in
     same-said f h v w us vs fh (cc)
     (reads-one region (x .state) (later pages) us vs t (subst (λ (z : Done). Reads region (z .out .state) (later pages) vs) (sym both) u))
-reads-one region _ _ _ _ (finds s pages x q f v us k i e t) (ends _ _ y q₂ l j) = one-answer region s (pages 0) x y q q₂ k l i j found-ended
-reads-one region _ _ _ _ (finds s pages x q f v us k i e t) (stops _ _ y q₂ n l j) = one-answer region s (pages 0) x y q q₂ k l i j found-refused
-reads-one region _ _ _ _ (ends s pages x q k i) (finds _ _ y q₂ h w vs l j d u) = one-answer region s (pages 0) y x q₂ q l k j i found-ended
-reads-one region _ _ _ _ (ends s pages x q k i) (ends _ _ y q₂ l j) = refl
-reads-one region _ _ _ _ (ends s pages x q k i) (stops _ _ y q₂ n l j) = refl
-reads-one region _ _ _ _ (stops s pages x q m k i) (finds _ _ y q₂ h w vs l j d u) = one-answer region s (pages 0) y x q₂ q l k j i found-refused
-reads-one region _ _ _ _ (stops s pages x q m k i) (ends _ _ y q₂ l j) = refl
-reads-one region _ _ _ _ (stops s pages x q m k i) (stops _ _ y q₂ n l j) = refl
+reads-one region _ _ _ _ (readsFound s pages x q f v us k i e t) (readsEnd _ _ y q₂ l j) = one-answer region s (pages 0) x y q q₂ k l i j found-ended
+reads-one region _ _ _ _ (readsFound s pages x q f v us k i e t) (readsRefusal _ _ y q₂ n l j) = one-answer region s (pages 0) x y q q₂ k l i j found-refused
+reads-one region _ _ _ _ (readsEnd s pages x q k i) (readsFound _ _ y q₂ h w vs l j d u) = one-answer region s (pages 0) y x q₂ q l k j i found-ended
+reads-one region _ _ _ _ (readsEnd s pages x q k i) (readsEnd _ _ y q₂ l j) = refl
+reads-one region _ _ _ _ (readsEnd s pages x q k i) (readsRefusal _ _ y q₂ n l j) = refl
+reads-one region _ _ _ _ (readsRefusal s pages x q m k i) (readsFound _ _ y q₂ h w vs l j d u) = one-answer region s (pages 0) y x q₂ q l k j i found-refused
+reads-one region _ _ _ _ (readsRefusal s pages x q m k i) (readsEnd _ _ y q₂ l j) = refl
+reads-one region _ _ _ _ (readsRefusal s pages x q m k i) (readsRefusal _ _ y q₂ n l j) = refl
 
 module _ (region : List ℕ) (b : AllBytes region) (g : Geometry) (ok : allowed (g .bytes) (g .«program_size») (g .«read_size») ≡ true) where
   abbrev a : ℕ
@@ -151,9 +151,9 @@ module _ (region : List ℕ) (b : AllBytes region) (g : Geometry) (ok : allowed 
       go (Found f) i t rest =
           let x : Done = step s region (pages 0) in
           subst (λ fs. Reads region s pages (allSaidIn region fs)) (sym (t .shown))
-          (finds s pages (x .out) (x .page) f _ _ (next-step refl) i (sym (payload-paged s region (pages 0) (x .out) (x .page) (next-step refl) f i)) (rest f i))
-      go Ended i t rest = none t (ends s pages (step s region (pages 0) .out) (step s region (pages 0) .page) (next-step refl) i)
-      go (Refused u) i t rest = none t (stops s pages (step s region (pages 0) .out) (step s region (pages 0) .page) u (next-step refl) i)
+          (readsFound s pages (x .out) (x .page) f _ _ (next-step refl) i (sym (payload-paged s region (pages 0) (x .out) (x .page) (next-step refl) f i)) (rest f i))
+      go Ended i t rest = none t (readsEnd s pages (step s region (pages 0) .out) (step s region (pages 0) .page) (next-step refl) i)
+      go (Refused u) i t rest = none t (readsRefusal s pages (step s region (pages 0) .out) (step s region (pages 0) .page) u (next-step refl) i)
 
   -- with large pages, whatever they hold, a caller from offset 0 reads exactly what a run with one page finds
   pub reads-exactly : (pages : ℕ → List ℕ) → ((i : ℕ) → Large (pages i)) → (page : List ℕ) → Large page
