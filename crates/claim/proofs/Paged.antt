@@ -39,7 +39,7 @@ use Rattle.recovery.specs.declared.next.Answer.{Answer}
 use Rattle.recovery.specs.declared.next.Answer.the-variants.{Found, Ended, Refused}
 use Rattle.recovery.specs.declared.next.Stepped.{Stepped}
 use Rattle.recovery.specs.Reads.{capacityOf, Read, laid, further, headerSize, wanted, made, seenBy, paged, readsAt, readsAll}
-use Rattle.recovery.specs.Next.{lastAnswer, arrived, walkFrom, pageAfter, Before, looks, says, before, unless, stepIn, step, NextStep, partAt}
+use Rattle.recovery.specs.Next.{lastAnswer, arrived, walkFrom, pageAfter, Before, looks, says, before, unless, withPage, stepIn, step, NextStep, partAt}
 use Rattle.recovery.proofs.Fronts.{capped, front-read}
 use Rattle.recovery.proofs.Near.{paged-steady, laid-long, laid-append}
 use Rattle.finish.proofs.Steps.{notFound, IsBefore, is-before}
@@ -220,7 +220,7 @@ module _ (s : Recovery) (region page : List ℕ) where
   unfolding step walkFrom pageAfter
   paged-step = go (before s region) (is-before s region) where
     go : (b : Before) → IsBefore s region b
-        → Paged region (unless b page (stepIn s region page (walkFrom s region (length page))) .page) (unless b page (stepIn s region page (walkFrom s region (length page))) .out .answer)
+        → Paged region (unless b (withPage page) (stepIn s region page (walkFrom s region (length page))) .page) (unless b (withPage page) (stepIn s region page (walkFrom s region (length page))) .out .answer)
     go (says x) k = paged-says (x .answer) k
     go looks k =
         let g = s .geometry in

@@ -21,7 +21,7 @@ use Rattle.recovery.specs.declared.next.Found.{Found as Record}
 use Rattle.recovery.specs.declared.next.Answer.{Answer}
 use Rattle.recovery.specs.declared.next.Answer.the-variants.{Found, Ended, Refused}
 use Rattle.recovery.specs.Reads.{capacityOf, paged}
-use Rattle.recovery.specs.Next.{arrived, walkFrom, pageAfter, isOpen, Before, looks, says, before, Done, unless, stepIn, step, NextStep, fresh}
+use Rattle.recovery.specs.Next.{arrived, walkFrom, pageAfter, isOpen, Before, looks, says, before, unless, Done, withPage, stepIn, step, NextStep, fresh}
 use Rattle.recovery.proofs.Runs.{next-step}
 use Rattle.recovery.proofs.Pages.{capacity-large}
 use Rattle.recovery.proofs.Near.{laid-long}
@@ -50,7 +50,7 @@ step-keeps : (s : Recovery) (region p : List ℕ) → Keeps s p (step s region p
 unfolding step before pageAfter
 step-keeps s region p =
     let g : Geometry = s .geometry in
-    let P : Before → Type 0 = λ b. Keeps s p (unless b p (stepIn s region p (walkFrom s region (length p)))) in
+    let P : Before → Type 0 = λ b. Keeps s p (unless b (withPage p) (stepIn s region p (walkFrom s region (length p)))) in
     cond-case P (not (isOpen (s .ending))) (λ _. record { settings = refl; long = refl })
     (λ _. cond-case P (not (allowed (g .bytes) (g .«program_size») (g .«read_size»))) (λ _. record { settings = refl; long = refl })
     (λ _. cond-case P (not (eqb (length region) (g .bytes))) (λ _. record { settings = refl; long = refl })
@@ -120,7 +120,7 @@ module _ (region : List ℕ) (b : AllBytes region) (g : Geometry) (ok : allowed 
     walks : walkFrom s region (length p) ≡ walkFrom s region (length q)
     walks = rw e (same (s .offset) p q hp hq)
 
-    go : (x : Before) → unless x p (stepIn s region p (walkFrom s region (length p))) .out ≡ unless x q (stepIn s region q (walkFrom s region (length q))) .out
+    go : (x : Before) → unless x (withPage p) (stepIn s region p (walkFrom s region (length p))) .out ≡ unless x (withPage q) (stepIn s region q (walkFrom s region (length q))) .out
     go (says x) = refl
     go looks = ap (λ w. arrived s (firstStep w)) walks
 

@@ -10,7 +10,7 @@ use lib.Dec.{eqb}
 use lib.ListN.{length, getD, length-append, List·getD-append}
 use borrow.Author.Tests.{le-leb, eqb-true, eqb-false}
 use Rattle.text.specs.declared.Number.the-variants.{Value}
-use Rattle.text.specs.Text.{digitsOf, decimal, isDigit, allDigits, valueFrom, valueOf, most, numberOf}
+use Rattle.text.specs.Text.{digitsOf, decimal, isDigit, allDigits, valueFrom, most, numberOf}
 use Rattle.text.specs.Inside.{readFrom}
 use Rattle.text.proofs.Digits.{digits-case}
 use Rattle.text.proofs.Numbers.{number-one, number-more}
@@ -41,14 +41,14 @@ digits-all (suc k) n =
     digits-case (λ s. allDigits s ≡ true) k n (all-one n)
     (λ more. all-append (digitsOf k (n / 10)) ((48 + n % 10) ∷ []) ∙ ap₂ (λ x y. x && y) (digits-all k (n / 10)) (all-one (n % 10) (omega arith)))
 
-digits-value : (k n : ℕ) → n < 10 ^ k → valueOf (digitsOf k n) ≡ n
+digits-value : (k n : ℕ) → n < 10 ^ k → valueFrom 0 (digitsOf k n) ≡ n
 unfolding digitsOf valueFrom
 digits-value zero n h = omega (arith, h, pow-zero 10)
 digits-value (suc k) n h =
-    digits-case (λ s. valueOf s ≡ n) k n (λ few. value-one 0 n ∙ omega arith)
+    digits-case (λ s. valueFrom 0 s ≡ n) k n (λ few. value-one 0 n ∙ omega arith)
     (λ more.
     value-append 0 (digitsOf k (n / 10)) ((48 + n % 10) ∷ [])
-    ∙ value-one (valueOf (digitsOf k (n / 10))) (n % 10)
+    ∙ value-one (valueFrom 0 (digitsOf k (n / 10))) (n % 10)
     ∙ ap (λ v. v * 10 + n % 10) (digits-value k (n / 10) (omega (arith, h, pow-suc 10 k)))
     ∙ omega arith)
 

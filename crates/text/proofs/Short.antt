@@ -11,7 +11,7 @@ use borrow.Author.Tests.{eqb-false, leb-true, not-true, ne-eqb}
 use Rattle.core.proofs.Choice.{cond-case}
 use Rattle.text.specs.declared.Number.{Number}
 use Rattle.text.specs.declared.Number.the-variants.{Value}
-use Rattle.text.specs.Text.{isDigit, allDigits, isDecimal, valueFrom, valueOf, most, numberOf}
+use Rattle.text.specs.Text.{isDigit, allDigits, isDecimal, valueFrom, most, numberOf}
 use Rattle.text.proofs.Numbers.{value-grows}
 
 -- the first of two digits or more is no zero
@@ -27,7 +27,7 @@ first-digit b c s e =
     let zero : b ≡ 48 → ⊥ = eqb-false b 48 (not-true (eqb b 48) other) in
     omega (arith, low, zero)
 
-five-digits : (b c d f g : ℕ) (s : List ℕ) → 48 < b → 10000 ≤ valueOf (b ∷ c ∷ d ∷ f ∷ g ∷ s)
+five-digits : (b c d f g : ℕ) (s : List ℕ) → 48 < b → 10000 ≤ valueFrom 0 (b ∷ c ∷ d ∷ f ∷ g ∷ s)
 unfolding valueFrom
 five-digits b c d f g s h = omega (arith, value-grows (((((0 * 10 + (b - 48)) * 10 + (c - 48)) * 10 + (d - 48)) * 10 + (f - 48)) * 10 + (g - 48)) s)
 
@@ -39,10 +39,10 @@ number-short (b ∷ c ∷ []) v e h = omega arith
 number-short (b ∷ c ∷ d ∷ []) v e h = omega arith
 number-short (b ∷ c ∷ d ∷ f ∷ []) v e h = omega arith
 number-short (b ∷ c ∷ d ∷ f ∷ g ∷ s) v e h =
-    cond-case (λ (x : Number). x ≡ Value v → length (b ∷ c ∷ d ∷ f ∷ g ∷ s) ≤ 4) (isDecimal (b ∷ c ∷ d ∷ f ∷ g ∷ s) && leb (valueOf (b ∷ c ∷ d ∷ f ∷ g ∷ s)) most)
+    cond-case (λ (x : Number). x ≡ Value v → length (b ∷ c ∷ d ∷ f ∷ g ∷ s) ≤ 4) (isDecimal (b ∷ c ∷ d ∷ f ∷ g ∷ s) && leb (valueFrom 0 (b ∷ c ∷ d ∷ f ∷ g ∷ s)) most)
     (λ t i.
-    let same : valueOf (b ∷ c ∷ d ∷ f ∷ g ∷ s) ≡ v = cc in
-    let w = and-eq-true-iff (isDecimal (b ∷ c ∷ d ∷ f ∷ g ∷ s)) (leb (valueOf (b ∷ c ∷ d ∷ f ∷ g ∷ s)) most) .0 t .0 in
+    let same : valueFrom 0 (b ∷ c ∷ d ∷ f ∷ g ∷ s) ≡ v = cc in
+    let w = and-eq-true-iff (isDecimal (b ∷ c ∷ d ∷ f ∷ g ∷ s)) (leb (valueFrom 0 (b ∷ c ∷ d ∷ f ∷ g ∷ s)) most) .0 t .0 in
     absurd (omega (arith, five-digits b c d f g s (first-digit b c (d ∷ f ∷ g ∷ s) w))))
     (λ t i. let z : _≡_ {A = ℕ} 0 1 = cc in absurd (omega arith))
     e

@@ -72,14 +72,10 @@ unfoldable pub valueFrom : ℕ → List ℕ → ℕ
 valueFrom v [] = v
 valueFrom v (b ∷ bs) = valueFrom (v * 10 + (b - 48)) bs
 
--- the number that digits make, of any size
-abbrev pub valueOf : List ℕ → ℕ
-valueOf s = valueFrom 0 s
-
 -- the greatest number of 64 bits
 abbrev pub most : ℕ
 most = 18446744073709551615
 
 -- the number that a text is: well formed, and 64 bits hold it
 unfoldable pub numberOf : List ℕ → Number
-numberOf s = cond (isDecimal s && leb (valueOf s) most) (Value (valueOf s)) Bad
+numberOf s = cond (isDecimal s && leb (valueFrom 0 s) most) (Value (valueFrom 0 s)) Bad
