@@ -11,7 +11,7 @@ use lib.Seq.{getD-drop, getD-take, getD-append-add, length-take-le, drop-drop, d
 use Rattle.core.specs.declared.error.DecodeError.{DecodeError}
 use Rattle.core.proofs.Choice.{cond-case}
 use Rattle.integrity.specs.Fcs.{headerCheck}
-use Rattle.storage.specs.Media.{erased, programmed}
+use Rattle.storage.specs.Media.{programmed}
 use Rattle.storage.proofs.ErasedBytes.{erased-is}
 use Rattle.frame.specs.Bytes.{bytesLE, valueLE, valueAt}
 use Rattle.frame.proofs.Sizes.{body-mono, body-least}
