@@ -39,10 +39,10 @@ use Rattle.recovery.specs.declared.next.Answer.{Answer}
 use Rattle.recovery.specs.declared.next.Answer.the-variants.{Found, Ended, Refused}
 use Rattle.recovery.specs.declared.next.Stepped.{Stepped}
 use Rattle.recovery.specs.Reads.{capacityOf, Read, laid, further, headerSize, wanted, made, seenBy, paged, readsAt, readsAll}
-use Rattle.recovery.specs.Next.{lastAnswer, arrived, walkFrom, pageAfter, Before, looks, says, before, unless, withPage, stepIn, step, NextStep, partAt}
+use Rattle.recovery.specs.Next.{lastAnswer, arrived, walkFrom, pageAfter, withPage, stepIn, step, NextStep, partAt}
 use Rattle.recovery.proofs.Fronts.{capped, front-read}
 use Rattle.recovery.proofs.Near.{paged-steady, laid-long, laid-append}
-use Rattle.finish.proofs.Steps.{notFound, IsBefore, is-before}
+use Rattle.finish.proofs.Steps.{notFound, Before, looks, says, unless, view, IsBefore, is-before, step-view}
 use Rattle.claim.proofs.Said.{saidIn}
 
 -- a part of a list's first n bytes is that part of the list
@@ -217,8 +217,8 @@ module _ (s : Recovery) (region page : List ℕ) where
   paged-says (Refused e) k = tt
 
   paged-step : Paged region (step s region page .page) (step s region page .out .answer)
-  unfolding step walkFrom pageAfter
-  paged-step = go (before s region) (is-before s region) where
+  unfolding walkFrom pageAfter
+  paged-step = subst (λ d. Paged region (d .page) (d .out .answer)) (sym (step-view s region page)) (go (view s region) (is-before s region)) where
     go : (b : Before) → IsBefore s region b
         → Paged region (unless b (withPage page) (stepIn s region page (walkFrom s region (length page))) .page) (unless b (withPage page) (stepIn s region page (walkFrom s region (length page))) .out .answer)
     go (says x) k = paged-says (x .answer) k

@@ -21,12 +21,12 @@ use Rattle.recovery.specs.declared.next.Found.{Found as Record}
 use Rattle.recovery.specs.declared.next.Answer.{Answer}
 use Rattle.recovery.specs.declared.next.Answer.the-variants.{Found, Ended, Refused}
 use Rattle.recovery.specs.Reads.{capacityOf, paged}
-use Rattle.recovery.specs.Next.{arrived, walkFrom, pageAfter, isOpen, Before, looks, says, before, unless, Done, withPage, stepIn, step, NextStep, fresh}
+use Rattle.recovery.specs.Next.{arrived, walkFrom, pageAfter, isOpen, before, Done, withPage, stepIn, step, NextStep, fresh}
 use Rattle.recovery.proofs.Runs.{next-step}
 use Rattle.recovery.proofs.Pages.{capacity-large}
 use Rattle.recovery.proofs.Near.{laid-long}
 use Rattle.finish.specs.Finish.{founds}
-use Rattle.finish.proofs.Steps.{Rests, After, run-step, found-less}
+use Rattle.finish.proofs.Steps.{Before, looks, says, unless, view, step-view, Rests, After, run-step, found-less}
 use Rattle.finish.proofs.Walks.{page-free}
 use Rattle.payload.specs.declared.Decoded.the-variants.{Record as Known}
 use Rattle.claim.specs.Saying.{Said}
@@ -50,10 +50,9 @@ step-keeps : (s : Recovery) (region p : List ℕ) → Keeps s p (step s region p
 unfolding step before pageAfter
 step-keeps s region p =
     let g : Geometry = s .geometry in
-    let P : Before → Type 0 = λ b. Keeps s p (unless b (withPage p) (stepIn s region p (walkFrom s region (length p)))) in
-    cond-case P (not (isOpen (s .ending))) (λ _. record { settings = refl; long = refl })
-    (λ _. cond-case P (not (allowed (g .bytes) (g .«program_size») (g .«read_size»))) (λ _. record { settings = refl; long = refl })
-    (λ _. cond-case P (not (eqb (length region) (g .bytes))) (λ _. record { settings = refl; long = refl })
+    cond-case (Keeps s p) (not (isOpen (s .ending))) (λ _. record { settings = refl; long = refl })
+    (λ _. cond-case (Keeps s p) (not (allowed (g .bytes) (g .«program_size») (g .«read_size»))) (λ _. record { settings = refl; long = refl })
+    (λ _. cond-case (Keeps s p) (not (eqb (length region) (g .bytes))) (λ _. record { settings = refl; long = refl })
     (λ _. record { settings = arrived-geometry s (firstStep (walkFrom s region (length p))); long = laid-long region _ p })))
 
 -- two promises of one step settle the same answer, state and page
@@ -115,8 +114,8 @@ module _ (region : List ℕ) (b : AllBytes region) (g : Geometry) (ok : allowed 
 
   -- so they give the same answer and the same state
   alike : (s : Recovery) (p q : List ℕ) → s .geometry ≡ g → Large p → Large q → step s region p .out ≡ step s region q .out
-  unfolding step walkFrom
-  alike s p q e hp hq = go (before s region) where
+  unfolding walkFrom
+  alike s p q e hp hq = ap (λ d. d .out) (step-view s region p) ∙ go (view s region) ∙ sym (ap (λ d. d .out) (step-view s region q)) where
     walks : walkFrom s region (length p) ≡ walkFrom s region (length q)
     walks = rw e (same (s .offset) p q hp hq)
 
