@@ -10,7 +10,7 @@ use Rattle.place.specs.declared.Sealed.{Sealed}
 use Rattle.recovery.specs.declared.next.Ending.{Ending}
 use Rattle.recovery.specs.declared.next.Ending.the-variants.{Open, Clean, Damaged, Incomplete, Unsealed}
 use Rattle.recovery.specs.declared.next.Recovery.{Recovery}
-use Rattle.recovery.specs.declared.next.Found.{Found as Record}
+use Rattle.recovery.specs.declared.next.Found.{Found as OneFound}
 use Rattle.recovery.specs.declared.next.Answer.{Answer}
 use Rattle.recovery.specs.declared.next.Answer.the-variants.{Found, Ended, Refused as NoRecord}
 use Rattle.scan.specs.declared.Scan.{Scan}
@@ -33,7 +33,7 @@ use Rattle.answers.specs.declared.stepped.ScanState.{ScanState}
 use Rattle.answers.specs.declared.opened.AdvancedJournal.{AdvancedJournal}
 use Rattle.numbers.specs.Refusing.{notRefused, refusedBy}
 use Rattle.numbers.specs.Reading.{readAs}
-use Rattle.answers.specs.Stepping.{foundAs, nothing, endingNumber, endingOf, recoveryOf, stateOf, stateAfter, recoveryStepTo, scanStateOf, scanStateAfter, scanStepTo, findingBy}
+use Rattle.answers.specs.Stepping.{foundAs, noFound, endingNumber, endingOf, recoveryOf, stateOf, stateAfter, recoveryStepTo, scanStateOf, scanStateAfter, scanStepTo, findingBy}
 use Rattle.answers.specs.Appending.{noJournal, openedBy, advancedTo, progressBy}
 
 -- endings
@@ -93,14 +93,14 @@ found-as o x y f = rw f
 
 -- steps; s is the state t as it was made into numbers
 module _ (t s : RecoveryState) (h : s ≡ t) (z : Answer) where
-  pub step-found : (x : Record) (y : FoundRecord) → z ≡ Found x → y ≡ foundAs (x .offset) (x .«record»)
+  pub step-found : (x : OneFound) (y : FoundRecord) → z ≡ Found x → y ≡ foundAs (x .offset) (x .«record»)
       → record { state = s; refused = notRefused; «is_found» = 1; found = y } ≡ recoveryStepTo t z
   step-found x y f g = rw (f, g, h)
 
-  pub step-ended : z ≡ Ended → record { state = s; refused = notRefused; «is_found» = 0; found = nothing } ≡ recoveryStepTo t z
+  pub step-ended : z ≡ Ended → record { state = s; refused = notRefused; «is_found» = 0; found = noFound } ≡ recoveryStepTo t z
   step-ended f = rw (f, h)
 
-  pub step-refused : (e : Refusal) (y : Refused) → z ≡ NoRecord e → y ≡ refusedBy e → record { state = s; refused = y; «is_found» = 0; found = nothing } ≡ recoveryStepTo t z
+  pub step-refused : (e : Refusal) (y : Refused) → z ≡ NoRecord e → y ≡ refusedBy e → record { state = s; refused = y; «is_found» = 0; found = noFound } ≡ recoveryStepTo t z
   step-refused e y f g = rw (f, g, h)
 
 module _ (t s : ScanState) (h : s ≡ t) (z : Scanned) where
@@ -108,10 +108,10 @@ module _ (t s : ScanState) (h : s ≡ t) (z : Scanned) where
       → record { state = s; refused = notRefused; «is_found» = 1; found = y } ≡ scanStepTo t z
   scan-found x o y f g = rw (f, g, h)
 
-  pub scan-ended : z ≡ ScanEnded → record { state = s; refused = notRefused; «is_found» = 0; found = nothing } ≡ scanStepTo t z
+  pub scan-ended : z ≡ ScanEnded → record { state = s; refused = notRefused; «is_found» = 0; found = noFound } ≡ scanStepTo t z
   scan-ended f = rw (f, h)
 
-  pub scan-refused : (e : Refusal) (y : Refused) → z ≡ ScanRefused e → y ≡ refusedBy e → record { state = s; refused = y; «is_found» = 0; found = nothing } ≡ scanStepTo t z
+  pub scan-refused : (e : Refusal) (y : Refused) → z ≡ ScanRefused e → y ≡ refusedBy e → record { state = s; refused = y; «is_found» = 0; found = noFound } ≡ scanStepTo t z
   scan-refused e y f g = rw (f, g, h)
 
 -- find

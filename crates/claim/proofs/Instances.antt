@@ -34,7 +34,7 @@ use Rattle.journal.specs.Opening.{openingOf}
 use Rattle.append.specs.Append.{unitOf, roomOf, stagedWith, asStaged, onDevice, underWay, begins, staged, isNext, confirmed, barred, afterCommit, committed}
 use Rattle.claim.specs.Cuts.{bit, Mixed, Cut}
 use Rattle.claim.specs.Saying.{Given, given, allGiven}
-use Rattle.claim.specs.Events.{Call, opening, stage, barrier, commit, Event, call, cut, cutIn, Held, none, holds, Machine, Verdict, Outcome, afterOpening, stepped, stepBy, done, Way, nothing, under, Book, told, State, sealedIn, called, cutOff, afterEvent, run, verdicts, Large, Stands, StandsCut, Allows, Valid, start}
+use Rattle.claim.specs.Events.{Call, opening, stage, barrier, commit, Event, call, cut, cutIn, Held, none, holds, Machine, Verdict, Outcome, afterOpening, stepped, stepBy, done, Way, nothing, under, Book, told, State, sealedIn, called, cutOff, afterEvent, run, verdicts, Large, MayStand, MayBeCut, Allows, Valid, start}
 use Rattle.claim.specs.Promised.{Reads}
 use Rattle.claim.specs.Claim.{Exactly, units, after}
 use Rattle.claim.proofs.Bits.{bit-and}
@@ -257,7 +257,7 @@ module _ (page : List ℕ) (h : Large page) where
   sealed-lent s commit t = refl
 
   -- a call that passes the test may stand
-  stand-is : (b : Book) (c : Call) → mayStand b c ≡ true → Stands b (lent page c)
+  stand-is : (b : Book) (c : Call) → mayStand b c ≡ true → MayStand b (lent page c)
   stand-is b (opening p) e = (nothing-is (b .way) e, h)
   stand-is b (stage x p) e =
       let both = and-eq-true-iff (b .journal) (typed x) .0 e in
@@ -265,7 +265,7 @@ module _ (page : List ℕ) (h : Large page) where
   stand-is b barrier e = e
   stand-is b commit e = e
 
-  cut-stand-is : (b : Book) (c : Call) → mayBeCut b c ≡ true → StandsCut b (lent page c)
+  cut-stand-is : (b : Book) (c : Call) → mayBeCut b c ≡ true → MayBeCut b (lent page c)
   cut-stand-is b (opening p) e = h
   cut-stand-is b (stage x p) e = stand-is b (stage x p) e
   cut-stand-is b barrier e = e
@@ -278,7 +278,7 @@ module _ (page : List ℕ) (h : Large page) where
     leaves : run 4 1 s es .book ≡ z .book
 
   -- a call, and a cut, that may stand in s and lead to t
-  after-call : (s t : State) (c : Call) (v : Verdict) (es : List Event) (b : Bool) (z : Trace) → Stands (s .book) c → done 4 1 (s .machine) c .verdict ≡ v
+  after-call : (s t : State) (c : Call) (v : Verdict) (es : List Event) (b : Bool) (z : Trace) → MayStand (s .book) c → done 4 1 (s .machine) c .verdict ≡ v
       → afterEvent 4 1 s (call c) ≡ t → Says t es z → Says s (call c ∷ es) (checked b (answered v z))
   unfolding run verdicts
   after-call s t c v es b z a e f y =
@@ -306,7 +306,7 @@ module _ (page : List ℕ) (h : Large page) where
       let o : Outcome = plainly (s .machine) c in
       let both = and-eq-true-iff (mayStand (s .book) c) (traced (called s c o) es .valid) .0 e in
       let d : done 4 1 (s .machine) (lent page c) ≡ o = done-plainly (s .machine) (sound-of 64 4 1 allows s i) (fits-of s i) c in
-      let a : Stands (s .book) (lent page c) = stand-is (s .book) c (both .0) in
+      let a : MayStand (s .book) (lent page c) = stand-is (s .book) c (both .0) in
       let f : afterEvent 4 1 s (call (lent page c)) ≡ called s c o =
       ap (called s (lent page c)) d ∙ ap (λ b. record { machine = o .leaves; book = b }) (told-lent (s .book) c (o .verdict)) in
       after-call s (called s c o) (lent page c) (o .verdict) (events page es) (mayStand (s .book) c) (traced (called s c o) es) a (ap (λ y. y .verdict) d) f

@@ -41,7 +41,7 @@ use Rattle.append.specs.Append.{unitOf, StepLeft, keeps as refusing, checkFor, 
 use Rattle.counts.specs.Counts.{counts, unwritten as nothingWritten, plus}
 use Rattle.claim.specs.Cuts.{Cut}
 use Rattle.claim.specs.Saying.{Given, payloadFor, allGiven}
-use Rattle.claim.specs.Events.{Call, opening, stage, barrier, commit, Event, call, cut, cutIn, Held, none, holds, Machine, machine, refusedWith, Outcome, outcome, afterOpening, stepped, done, Torn, TornIn, lost, Way, nothing, under, wholeSeal, sealedIn, State, called, cutOff, afterEvent, run, Large, Stands, Allows, Valid, start}
+use Rattle.claim.specs.Events.{Call, opening, stage, barrier, commit, Event, call, cut, cutIn, Held, none, holds, Machine, machine, refusedWith, Outcome, outcome, afterOpening, stepped, done, Torn, TornIn, lost, Way, nothing, under, wholeSeal, sealedIn, State, called, cutOff, afterEvent, run, Large, MayStand, Allows, Valid, start}
 use Rattle.claim.specs.Claim.{units, after}
 use Rattle.claim.proofs.Said.{allSaidIn}
 use Rattle.claim.proofs.Tears.{replicate-bytes, cut-same, cut-bytes}
@@ -136,7 +136,7 @@ module _ (n a r : ℕ) (ok : allowed n a r ≡ true) where
       P : Opening → Type 0
       P y = Inv (called (at (machine s s held) k nothing bs) (opening page) (afterOpening (machine s s held) y))
 
-      go : (e : Stop) → walk (plain a) s 0 .stop ≡ e → P (openingOf g (lastOf (fresh g) (record { way = walk (plain a) s 0 .way; at = walk (plain a) s 0 .at; stop = e })))
+      go : (e : Stop) → walk (plain a) s 0 .stop ≡ e → P (openingOf g (lastOf (fresh g) (record { points = walk (plain a) s 0 .points; at = walk (plain a) s 0 .at; stop = e })))
       go End f = ready-inv s (walk (plain a) s 0 .at) nothingWritten bs x (opened-ready a some s bs (skipped-local a some) v f)
       go (Bad e) f = lost-inv s bs x v
       go NoSeal f = lost-inv s bs x v
@@ -330,7 +330,7 @@ module _ (n a r : ℕ) (ok : allowed n a r ≡ true) where
     same (NotOpened e) = refl
 
   -- a step keeps it where there is a journal
-  stage-inv : (s : State) (q : Given) (page : List ℕ) → Inv s → Stands (s .book) (stage q page) → Keeps s (stage q page) (done a r (s .machine) (stage q page))
+  stage-inv : (s : State) (q : Given) (page : List ℕ) → Inv s → MayStand (s .book) (stage q page) → Keeps s (stage q page) (done a r (s .machine) (stage q page))
   stage-inv s q page (lost-inv u bs x v) h = absurd (false≢true (h .0))
   stage-inv s q page (ready-inv u o w bs x v) h = ready-stage u o w bs x v q page (h .2)
   stage-inv s q page (staged-inv base u o y w bs z x v) h = staged-stage base u o y w bs z x v q page

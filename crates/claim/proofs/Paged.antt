@@ -34,7 +34,7 @@ use Rattle.place.specs.Walk.{Walk, walk, Step, meets, stops, firstStep, stepOff
 use Rattle.place.proofs.Cases.{settled-case}
 use Rattle.place.proofs.Walks.{each-walk}
 use Rattle.recovery.specs.declared.next.Recovery.{Recovery}
-use Rattle.recovery.specs.declared.next.Found.{Found as Record}
+use Rattle.recovery.specs.declared.next.Found.{Found as OneFound}
 use Rattle.recovery.specs.declared.next.Answer.{Answer}
 use Rattle.recovery.specs.declared.next.Answer.the-variants.{Found, Ended, Refused}
 use Rattle.recovery.specs.declared.next.Stepped.{Stepped}
@@ -188,16 +188,16 @@ module _ (region : List ℕ) where
 
     -- along a walk: the reads of what was skipped come first
     holds-walk : 0 < a → (o : ℕ) (page : List ℕ) → cap ≤ length page
-        → HoldsStep (laid region (readsAll a r cap region (stepOffsets (walk (paged a r cap) region o .way) (walk (paged a r cap) region o .at))) page) (firstStep (walk (paged a r cap) region o))
+        → HoldsStep (laid region (readsAll a r cap region (stepOffsets (walk (paged a r cap) region o .points) (walk (paged a r cap) region o .at))) page) (firstStep (walk (paged a r cap) region o))
     unfolding readsAll laid
     holds-walk h =
         each-walk (paged a r cap) (paged-steady a r cap h) region
-        (λ o w. (page : List ℕ) → cap ≤ length page → HoldsStep (laid region (readsAll a r cap region (stepOffsets (w .way) (w .at))) page) (firstStep w))
+        (λ o w. (page : List ℕ) → cap ≤ length page → HoldsStep (laid region (readsAll a r cap region (stepOffsets (w .points) (w .at))) page) (firstStep w))
         (λ o x e _ _ _ page c.
         subst (λ q. Holds o q (Met x)) (sym (laid-append region (readsAt a r cap region o) [] page)) (subst (Holds o (laid region (readsAt a r cap region o) page)) e (holds-look o page c)))
         (λ o n _ _ _ f page c.
         let w : Walk = walk (paged a r cap) region (o + n) in
-        subst (λ q. HoldsStep q (firstStep w)) (sym (laid-append region (readsAt a r cap region o) (readsAll a r cap region (stepOffsets (w .way) (w .at))) page))
+        subst (λ q. HoldsStep q (firstStep w)) (sym (laid-append region (readsAt a r cap region o) (readsAll a r cap region (stepOffsets (w .points) (w .at))) page))
         (f (laid region (readsAt a r cap region o) page) (omega (arith, c, laid-long region (readsAt a r cap region o) page))))
         (λ o e _ page c. tt)
 
@@ -225,11 +225,11 @@ module _ (s : Recovery) (region page : List ℕ) where
     go looks k =
         let g = s .geometry in
         let c = capped (length page) (g .«read_size») _ refl in
-        paged-arrived (firstStep (walkFrom s region (length page))) (pageAfter s region (stepOffsets (walkFrom s region (length page) .way) (walkFrom s region (length page) .at)) page)
+        paged-arrived (firstStep (walkFrom s region (length page))) (pageAfter s region (stepOffsets (walkFrom s region (length page) .points) (walkFrom s region (length page) .at)) page)
         (holds-walk region (g .«program_size») (g .«read_size») (capacityOf (length page) (g .«read_size»)) (limits (g .bytes) (g .«program_size») (g .«read_size») (k .units) .program-least) (s .offset) page (omega (arith, c .all, c .most)))
 
 -- The payload of a record that a step finds is that part of the page which its place and length give, with the bytes that stand in the region.
-pub payload-paged : (s : Recovery) (region page : List ℕ) (out : Stepped) (page′ : List ℕ) → NextStep s region page out page′ → (f : Record) → out .answer ≡ Found f
+pub payload-paged : (s : Recovery) (region page : List ℕ) (out : Stepped) (page′ : List ℕ) → NextStep s region page out page′ → (f : OneFound) → out .answer ≡ Found f
     → partAt page′ (f .«record» .payload .place) (f .«record» .payload .len) ≡ saidIn region f .payload
 payload-paged s region page out page′ k f e =
     let g : Paged region page′ (out .answer) = rw (← k .all) at (paged-step s region page) in

@@ -30,7 +30,7 @@ use Rattle.claim.proofs.Calm.{CalmEnd, Calm}
 
 -- where the walk c says bs and then what d says, and ends as d does
 pub record Follows (region : List ℕ) (bs : List Given) (c d : Walk) : Type 0 where
-  pub says : allSaidIn region (found (c .way)) ≡ allGiven bs ++ allSaidIn region (found (d .way))
+  pub says : allSaidIn region (found (c .points)) ≡ allGiven bs ++ allSaidIn region (found (d .points))
   pub at : c .at ≡ d .at
   pub stop : c .stop ≡ d .stop
 
@@ -62,11 +62,11 @@ given-append (x ∷ xs) cs = ap (λ l. given x ∷ l) (given-append xs cs)
 
 follows-none : (region : List ℕ) (c d : Walk) → c ≡ d → Follows region [] c d
 unfolding allGiven
-follows-none region c d e = record { says = ap (λ x. allSaidIn region (found (x .way))) e; at = ap (λ x. x .at) e; stop = ap (λ x. x .stop) e }
+follows-none region c d e = record { says = ap (λ x. allSaidIn region (found (x .points))) e; at = ap (λ x. x .at) e; stop = ap (λ x. x .stop) e }
 
 follows-both : (region : List ℕ) (bs cs : List Given) (c d e : Walk) → Follows region bs c d → Follows region cs d e → Follows region (bs ++ cs) c e
 follows-both region bs cs c d e p q =
-    let rest : List Said = allSaidIn region (found (e .way)) in
+    let rest : List Said = allSaidIn region (found (e .points)) in
     record {
       says = p .says ∙ ap (λ l. allGiven bs ++ l) (q .says) ∙ sym (append-assoc (allGiven bs) (allGiven cs) rest) ∙ ap (λ l. l ++ rest) (sym (given-append bs cs));
       at = p .at ∙ q .at;
@@ -130,10 +130,10 @@ module _ (a : ℕ) (h : 0 < a) where
         ap (take n) (drop-append-add pre (s ++ rest) 12 ∙ drop-append-le 12 s rest (omega (arith, l)))
         ∙ take-append-le n (drop 12 s) rest (omega (arith, l, length-drop 12 s))
         ∙ p in
-        let later : List Said = allSaidIn R (found (walk (plain a) R (length pre + length s) .way)) in
+        let later : List Said = allSaidIn R (found (walk (plain a) R (length pre + length s) .points)) in
         let e = turn R (length pre) (s ++ rest) _ (drop-append-seam pre (s ++ rest)) (f rest) in
         record {
-          says = ap (λ c. allSaidIn R (found (c .way))) e ∙ ap₂ (λ (d : Decoded) (b : List ℕ). record { «record» = d; payload = b } ∷ later) (sym i) bytes;
+          says = ap (λ c. allSaidIn R (found (c .points))) e ∙ ap₂ (λ (d : Decoded) (b : List ℕ). record { «record» = d; payload = b } ∷ later) (sym i) bytes;
           at = ap (λ c. c .at) e;
           stop = ap (λ c. c .stop) e;
         }
@@ -146,23 +146,23 @@ module _ (a : ℕ) (h : 0 < a) where
     one pre rest =
         let R : List ℕ = pre ++ (s ++ rest) in
         let e = turn R (length pre) (s ++ rest) _ (drop-append-seam pre (s ++ rest)) (f rest) in
-        record { says = ap (λ c. allSaidIn R (found (c .way))) e; at = ap (λ c. c .at) e; stop = ap (λ c. c .stop) e }
+        record { says = ap (λ c. allSaidIn R (found (c .points))) e; at = ap (λ c. c .at) e; stop = ap (λ c. c .stop) e }
 
   -- a tail t behind a front
   module _ (pre t : List ℕ) where
     -- where what is left is erased, the walk ends
-    at-erased : (o : ℕ) (s : List ℕ) → drop o (pre ++ t) ≡ s → erased s ≡ true → walk (plain a) (pre ++ t) o ≡ record { way = []; at = o; stop = End }
+    at-erased : (o : ℕ) (s : List ℕ) → drop o (pre ++ t) ≡ s → erased s ≡ true → walk (plain a) (pre ++ t) o ≡ record { points = []; at = o; stop = End }
     at-erased o s d e = turn (pre ++ t) o s (Over End) d (erased-stands a s e)
 
-    after-skip : (n : ℕ) → erased (drop n t) ≡ true → walk (plain a) (pre ++ t) (length pre + n) ≡ record { way = []; at = length pre + n; stop = End }
+    after-skip : (n : ℕ) → erased (drop n t) ≡ true → walk (plain a) (pre ++ t) (length pre + n) ≡ record { points = []; at = length pre + n; stop = End }
     after-skip n e = at-erased (length pre + n) (drop n t) (drop-append-add pre t n) e
 
     -- in a calm tail the walk finds nothing
-    none-found : Calm t (stands a t) → found (walk (plain a) (pre ++ t) (length pre) .way) ≡ []
-    none-found c = ap (λ w. found (w .way)) (turn (pre ++ t) (length pre) t (stands a t) (drop-append-seam pre t) refl) ∙ go (stands a t) c where
-      go : (x : Stand) → Calm t x → found (onward (length pre) x (λ n. walk (plain a) (pre ++ t) (length pre + n)) .way) ≡ []
+    none-found : Calm t (stands a t) → found (walk (plain a) (pre ++ t) (length pre) .points) ≡ []
+    none-found c = ap (λ w. found (w .points)) (turn (pre ++ t) (length pre) t (stands a t) (drop-append-seam pre t) refl) ∙ go (stands a t) c where
+      go : (x : Stand) → Calm t x → found (onward (length pre) x (λ n. walk (plain a) (pre ++ t) (length pre + n)) .points) ≡ []
       go (Met x) k = absurd k
-      go (Passed n) k = ap (λ w. found (w .way)) (after-skip n k)
+      go (Passed n) k = ap (λ w. found (w .points)) (after-skip n k)
       go (Over e) k = refl
 
     -- the walk skips the first bytes of t, up to o, and all behind them is erased
@@ -200,13 +200,13 @@ module _ (a : ℕ) (h : 0 < a) where
     from-start bs p = subst (λ n. Follows (pre ++ t) bs (walk (plain a) (pre ++ t) 0) (walk (plain a) (pre ++ t) n)) (omega arith) (p .over [] t)
 
   -- the walk over a region of this shape finds bs
-  pub finds : (region : List ℕ) (bs : List Given) → Shape a region bs → allSaidIn region (found (walk (plain a) region 0 .way)) ≡ allGiven bs
+  pub finds : (region : List ℕ) (bs : List Given) → Shape a region bs → allSaidIn region (found (walk (plain a) region 0 .points)) ≡ allGiven bs
   unfolding allSaidIn
   finds region bs v =
       let R : List ℕ = v .front ++ v .tail in
-      let all : allSaidIn R (found (walk (plain a) R 0 .way)) ≡ allGiven bs =
+      let all : allSaidIn R (found (walk (plain a) R 0 .points)) ≡ allGiven bs =
       from-start (v .front) (v .tail) bs (v .passes) .says ∙ ap (λ fs. allGiven bs ++ allSaidIn R fs) (none-found (v .front) (v .tail) (v .calm)) ∙ append-nil (allGiven bs) in
-      subst⁻¹ (λ r. allSaidIn r (found (walk (plain a) r 0 .way)) ≡ allGiven bs) (v .split) all
+      subst⁻¹ (λ r. allSaidIn r (found (walk (plain a) r 0 .points)) ≡ allGiven bs) (v .split) all
 
   -- where the walk over it ends clean, the region is ready at the offset it ends at, given that a skipped record stands alone
   pub opened-ready : (region : List ℕ) (bs : List Given) → ((t : List ℕ) (n : ℕ) → stands a t ≡ Passed n → (rest : List ℕ) → stands a (take n t ++ rest) ≡ Passed n)

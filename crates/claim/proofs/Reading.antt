@@ -17,7 +17,7 @@ use Rattle.roundtrip.specs.Typed.{AllBytes}
 use Rattle.place.specs.Walk.{plain, walk, Step, meets, stops, firstStep}
 use Rattle.recovery.specs.declared.next.Stepped.{Stepped}
 use Rattle.recovery.specs.declared.next.Recovery.{Recovery}
-use Rattle.recovery.specs.declared.next.Found.{Found as Record}
+use Rattle.recovery.specs.declared.next.Found.{Found as OneFound}
 use Rattle.recovery.specs.declared.next.Answer.{Answer}
 use Rattle.recovery.specs.declared.next.Answer.the-variants.{Found, Ended, Refused}
 use Rattle.recovery.specs.Reads.{capacityOf, paged}
@@ -61,17 +61,17 @@ module _ (region : List ℕ) (s : Recovery) (p : List ℕ) (x y : Stepped) (q t 
   same-done = k .all ∙ sym (l .all)
 
   -- so a step does not both find a record and find none
-  one-answer : {A : Type 0} {f : Record} {z : Answer} → x .answer ≡ Found f → y .answer ≡ z → (Found f ≡ z → A) → A
+  one-answer : {A : Type 0} {f : OneFound} {z : Answer} → x .answer ≡ Found f → y .answer ≡ z → (Found f ≡ z → A) → A
   one-answer e d h = h (sym e ∙ ap (λ (w : Done). w .out .answer) same-done ∙ d)
 
-found-ended : {A : Type 0} {f : Record} → Found f ≡ Ended → A
+found-ended : {A : Type 0} {f : OneFound} → Found f ≡ Ended → A
 found-ended e = let z : _≡_ {A = ℕ} 0 1 = cc in absurd (omega arith)
 
-found-refused : {A : Type 0} {f : Record} {u : Refusal} → Found f ≡ Refused u → A
+found-refused : {A : Type 0} {f : OneFound} {u : Refusal} → Found f ≡ Refused u → A
 found-refused e = let z : _≡_ {A = ℕ} 0 1 = cc in absurd (omega arith)
 
 -- the same record, with the same payload, and the same behind it
-same-said : (f h : Record) (v w : List ℕ) (us vs : List Said) → f ≡ h → v ≡ w → us ≡ vs
+same-said : (f h : OneFound) (v w : List ℕ) (us vs : List Said) → f ≡ h → v ≡ w → us ≡ vs
     → record { «record» = Known (f .«record» .«record»); payload = v } ∷ us ≡ record { «record» = Known (h .«record» .«record»); payload = w } ∷ vs
 same-said f h v w us vs a b c = rw (a, b, c)
 
@@ -144,7 +144,7 @@ module _ (region : List ℕ) (b : AllBytes region) (g : Geometry) (ok : allowed 
       none t u = subst (λ fs. Reads region s pages (allSaidIn region fs)) (sym (t .shown)) u
 
       go : (z : Answer) → step s region (pages 0) .out .answer ≡ z → After s region page z (step s region page)
-          → ((f : Record) → step s region (pages 0) .out .answer ≡ Found f
+          → ((f : OneFound) → step s region (pages 0) .out .answer ≡ Found f
           → Reads region (step s region (pages 0) .out .state) (later pages) (allSaidIn region (founds (step s region page .out .state) region (step s region page .page))))
           → Reads region s pages (allSaidIn region (founds s region page))
       go (Found f) i t rest =

@@ -6,7 +6,7 @@ use Rattle.core.specs.Kinds.{kindOf, seqOf}
 use Rattle.text.specs.Text.{codes, decimal}
 use Rattle.recovery.specs.declared.next.Ending.{Ending}
 use Rattle.recovery.specs.declared.next.Ending.the-variants.{Open, Clean, Damaged, Incomplete, Unsealed}
-use Rattle.recovery.specs.declared.next.Found.{Found as Record}
+use Rattle.recovery.specs.declared.next.Found.{Found as OneFound}
 use Rattle.recovery.specs.declared.next.Stepped.{Stepped}
 use Rattle.recovery.specs.Next.{answerRefusal}
 
@@ -15,7 +15,7 @@ abbrev pub field : ℕ → ℕ → List ℕ
 field n e = decimal n ++ (e ∷ [])
 
 -- offset, kind, sequence, payload length
-unfoldable pub recordLine : Record → List ℕ
+unfoldable pub recordLine : OneFound → List ℕ
 recordLine x =
     field (x .offset) 44
     ++ (field (kindOf (x .«record» .«record»)) 44

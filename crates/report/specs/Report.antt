@@ -37,7 +37,7 @@ linesOf xs last = recordLines xs ++ endLine last (length xs) (recordBytes xs)
 
 -- the lines of a walk from a region's start
 abbrev pub walkLines : Geometry → Walk → List ℕ
-walkLines g w = linesOf (found (w .way)) (lastOf (fresh g) w)
+walkLines g w = linesOf (found (w .points)) (lastOf (fresh g) w)
 
 -- with the settings checked
 abbrev pub listedWith : List ℕ → Checked → List ℕ

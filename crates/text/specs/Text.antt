@@ -76,6 +76,6 @@ valueFrom v (b ∷ bs) = valueFrom (v * 10 + (b - 48)) bs
 abbrev pub most : ℕ
 most = 18446744073709551615
 
--- the number that a text is: well formed, and 64 bits hold it
+-- the number that a text is: in decimal, and 64 bits hold it
 unfoldable pub numberOf : List ℕ → Number
 numberOf s = cond (isDecimal s && leb (valueFrom 0 s) most) (Value (valueFrom 0 s)) Bad
