@@ -234,7 +234,7 @@ fn scan_state_after(before: ScanState, after: Scan) -> ScanState
     scan_state_of(after)
 }
 
-pub fn scan_step_by(before: ScanState, x: scan::Stepped) -> ScanStep
+pub fn scan_step_by(before: ScanState, x: scan::ScanStepped) -> ScanStep
     ensures { λ r. ⌜ r ≡ scanStepBy before x ⌝ }
 {
     let after = x.state;

@@ -116,7 +116,7 @@ traced s (does c v ∷ es) =
 traced s (torn t ∷ es) = checked (mayLeave (s .machine .base) (s .machine .region) t) (traced (cutOff s false t) es)
 traced s (tornIn c t ∷ es) =
     let o : Outcome = plainly (s .machine) c in
-    checked (mayBeCut (s .book) c && mayLeave (s .machine .base) (o .leaves .region) t)
+    checked (mayBeCut (s .book) c && mayLeave (s .machine .base) (o .left .region) t)
     (traced (cutOff s (sealedIn 4 s c t) t) es)
 
 abbrev tried : Row → Trace
@@ -308,7 +308,7 @@ module _ (page : List ℕ) (h : Large page) where
       let d : done 4 1 (s .machine) (lent page c) ≡ o = done-plainly (s .machine) (sound-of 64 4 1 allows s i) (fits-of s i) c in
       let a : MayStand (s .book) (lent page c) = stand-is (s .book) c (both .0) in
       let f : afterEvent 4 1 s (call (lent page c)) ≡ called s c o =
-      ap (called s (lent page c)) d ∙ ap (λ b. record { machine = o .leaves; book = b }) (told-lent (s .book) c (o .verdict)) in
+      ap (called s (lent page c)) d ∙ ap (λ b. record { machine = o .left; book = b }) (told-lent (s .book) c (o .verdict)) in
       after-call s (called s c o) (lent page c) (o .verdict) (events page es) (mayStand (s .book) c) (traced (called s c o) es) a (ap (λ y. y .verdict) d) f
       (traced-says (called s c o) es (subst (Inv 64 4 1 allows) f (keeps 64 4 1 allows s (call (lent page c)) i a)) (both .1))
   traced-says s (torn t ∷ es) i e =
@@ -319,12 +319,12 @@ module _ (page : List ℕ) (h : Large page) where
   traced-says s (tornIn c t ∷ es) i e =
       let o : Outcome = plainly (s .machine) c in
       let u : State = cutOff s (sealedIn 4 s c t) t in
-      let leaves : Bool = mayLeave (s .machine .base) (o .leaves .region) t in
+      let leaves : Bool = mayLeave (s .machine .base) (o .left .region) t in
       let both = and-eq-true-iff (mayBeCut (s .book) c && leaves) (traced u es .valid) .0 e in
       let here = and-eq-true-iff (mayBeCut (s .book) c) leaves .0 (both .0) in
       let d : done 4 1 (s .machine) (lent page c) ≡ o = done-plainly (s .machine) (sound-of 64 4 1 allows s i) (fits-of s i) c in
       let a : Allows 4 1 s (cutIn (lent page c) t) =
-      (cut-stand-is (s .book) c (here .0), subst (λ y. Cut (s .machine .base) (y .leaves .region) t) (sym d) (cut-is (s .machine .base) (o .leaves .region) t (here .1))) in
+      (cut-stand-is (s .book) c (here .0), subst (λ y. Cut (s .machine .base) (y .left .region) t) (sym d) (cut-is (s .machine .base) (o .left .region) t (here .1))) in
       let f : afterEvent 4 1 s (cutIn (lent page c) t) ≡ u = ap (λ b. cutOff s b t) (sealed-lent s c t) in
       after-cut s u (cutIn (lent page c) t) (events page es) (mayBeCut (s .book) c && leaves) (traced u es) refl a f
       (traced-says u es (subst (Inv 64 4 1 allows) f (keeps 64 4 1 allows s (cutIn (lent page c) t) i a)) (both .1))

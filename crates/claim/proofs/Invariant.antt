@@ -161,7 +161,7 @@ module _ (n a r : ℕ) (ok : allowed n a r ≡ true) where
   -- a step keeps the invariant, and so does whatever a cut within it leaves
   record Keeps (s : State) (c : Call) (o : Outcome) : Type 0 where
     kept : Inv (called s c o)
-    torn : (u : List ℕ) → Cut (s .machine .base) (o .leaves .region) u → Inv (cutOff s (sealedIn a s c u) u)
+    torn : (u : List ℕ) → Cut (s .machine .base) (o .left .region) u → Inv (cutOff s (sealedIn a s c u) u)
 
   -- a step that is refused
   module _ (s : State) (i : Inv s) (e : Refusal) where
@@ -325,7 +325,7 @@ module _ (n a r : ℕ) (ok : allowed n a r ≡ true) where
   -- wherever it stands it writes nothing, so that a cut within it is one between two calls
   opening-torn : (s : State) (page u : List ℕ) → Inv s → TornIn a r (s .machine) (opening page) u → Inv (cutOff s false u)
   opening-torn s page u i c = cut-inv s i u (subst (λ t. Cut (s .machine .base) t u) (same (opened a r (s .machine .region) page .opening)) c) where
-    same : (y : Opening) → afterOpening (s .machine) y .leaves .region ≡ s .machine .region
+    same : (y : Opening) → afterOpening (s .machine) y .left .region ≡ s .machine .region
     same (Opened j) = refl
     same (NotOpened e) = refl
 

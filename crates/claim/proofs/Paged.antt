@@ -29,7 +29,7 @@ use Rattle.place.specs.declared.Stop.{Stop}
 use Rattle.place.specs.declared.Stop.the-variants.{End, Bad, NoSeal, TooSmall}
 use Rattle.place.specs.declared.Stand.{Stand}
 use Rattle.place.specs.declared.Stand.the-variants.{Met, Passed, Over}
-use Rattle.place.specs.Stands.{settled, judgedBy, judged, Shape, Short, Blank, BadHeader, Overlong, Whole, headed, shapeOf, verdict, stands}
+use Rattle.place.specs.Stands.{settled, judgedBy, judged, Shape, Short, Blank, BadHeader, Overlong, Whole, headed, shapeOf, standBy, stands}
 use Rattle.place.specs.Walk.{Walk, walk, Step, meets, stops, firstStep, stepOffsets}
 use Rattle.place.proofs.Cases.{settled-case}
 use Rattle.place.proofs.Walks.{each-walk}
@@ -153,10 +153,10 @@ module _ (region : List ℕ) where
       reads x = cond (eqb (length tail) 0) [] (record { from = o; size = headerSize r (length tail) } ∷ further cap o tail x)
 
       abbrev Shown : Shape → Type 0
-      Shown x = Holds o (laid region (made cap (reads x)) page) (seenBy cap (reads x) (verdict a tail x))
+      Shown x = Holds o (laid region (made cap (reads x)) page) (seenBy cap (reads x) (standBy a tail x))
 
-      shown-over : (x : Shape) (e : Stop) → verdict a tail x ≡ Over e → Shown x
-      shown-over x e i = holds-seen o cap (laid region (made cap (reads x)) page) (reads x) (verdict a tail x) (rw i tt)
+      shown-over : (x : Shape) (e : Stop) → standBy a tail x ≡ Over e → Shown x
+      shown-over x e i = holds-seen o cap (laid region (made cap (reads x)) page) (reads x) (standBy a tail x) (rw i tt)
 
       shown-whole : (n : ℕ) → 12 ≤ length tail → n ≤ length tail → Shown (Whole n)
       unfolding further

@@ -19,18 +19,18 @@ use Rattle.place.specs.declared.Stop.{Stop}
 use Rattle.place.specs.declared.Stop.the-variants.{End, Bad, NoSeal, TooSmall}
 use Rattle.place.specs.declared.Stand.{Stand}
 use Rattle.place.specs.declared.Stand.the-variants.{Met, Passed, Over}
-use Rattle.place.specs.Stands.{shapeOf, verdict, stands}
+use Rattle.place.specs.Stands.{shapeOf, standBy, stands}
 use Rattle.place.specs.Walk.{plain, Walk, onward, walk}
 use Rattle.place.proofs.Lengths.{near-stands}
 use Rattle.place.proofs.Walks.{plain-steady, walk-on}
-use Rattle.finish.specs.Finish.{found}
+use Rattle.finish.specs.Finish.{foundAmong}
 use Rattle.claim.specs.Saying.{Given, Said, payloadFor, given, allGiven}
 use Rattle.claim.proofs.Said.{saidIn, allSaidIn}
 use Rattle.claim.proofs.Calm.{CalmEnd, Calm}
 
 -- where the walk c says bs and then what d says, and ends as d does
 pub record Follows (region : List ℕ) (bs : List Given) (c d : Walk) : Type 0 where
-  pub says : allSaidIn region (found (c .points)) ≡ allGiven bs ++ allSaidIn region (found (d .points))
+  pub says : allSaidIn region (foundAmong (c .points)) ≡ allGiven bs ++ allSaidIn region (foundAmong (d .points))
   pub at : c .at ≡ d .at
   pub stop : c .stop ≡ d .stop
 
@@ -62,11 +62,11 @@ given-append (x ∷ xs) cs = ap (λ l. given x ∷ l) (given-append xs cs)
 
 follows-none : (region : List ℕ) (c d : Walk) → c ≡ d → Follows region [] c d
 unfolding allGiven
-follows-none region c d e = record { says = ap (λ x. allSaidIn region (found (x .points))) e; at = ap (λ x. x .at) e; stop = ap (λ x. x .stop) e }
+follows-none region c d e = record { says = ap (λ x. allSaidIn region (foundAmong (x .points))) e; at = ap (λ x. x .at) e; stop = ap (λ x. x .stop) e }
 
 follows-both : (region : List ℕ) (bs cs : List Given) (c d e : Walk) → Follows region bs c d → Follows region cs d e → Follows region (bs ++ cs) c e
 follows-both region bs cs c d e p q =
-    let rest : List Said = allSaidIn region (found (e .points)) in
+    let rest : List Said = allSaidIn region (foundAmong (e .points)) in
     record {
       says = p .says ∙ ap (λ l. allGiven bs ++ l) (q .says) ∙ sym (append-assoc (allGiven bs) (allGiven cs) rest) ∙ ap (λ l. l ++ rest) (sym (given-append bs cs));
       at = p .at ∙ q .at;
@@ -99,7 +99,7 @@ unfolding stands shapeOf
 erased-stands a t e =
     let both = and-eq-true-iff (erased (take 12 t)) (erased (drop 12 t)) .0 (sym (ap erased (sym (take-append-drop 12 t)) ∙ erased-append (take 12 t) (drop 12 t)) ∙ e) in
     let start : erased (take 12 t) ≡ true = both .0 in
-    rw start (cond-case (λ s. verdict a t s ≡ Over End) (ltb (length t) 12) (λ _. rw e) (λ _. rw e))
+    rw start (cond-case (λ s. standBy a t s ≡ Over End) (ltb (length t) 12) (λ _. rw e) (λ _. rw e))
 
 -- erased bytes are calm
 pub erased-calm : (a : ℕ) (t : List ℕ) → erased t ≡ true → Calm t (stands a t)
@@ -130,10 +130,10 @@ module _ (a : ℕ) (h : 0 < a) where
         ap (take n) (drop-append-add pre (s ++ rest) 12 ∙ drop-append-le 12 s rest (omega (arith, l)))
         ∙ take-append-le n (drop 12 s) rest (omega (arith, l, length-drop 12 s))
         ∙ p in
-        let later : List Said = allSaidIn R (found (walk (plain a) R (length pre + length s) .points)) in
+        let later : List Said = allSaidIn R (foundAmong (walk (plain a) R (length pre + length s) .points)) in
         let e = turn R (length pre) (s ++ rest) _ (drop-append-seam pre (s ++ rest)) (f rest) in
         record {
-          says = ap (λ c. allSaidIn R (found (c .points))) e ∙ ap₂ (λ (d : Decoded) (b : List ℕ). record { «record» = d; payload = b } ∷ later) (sym i) bytes;
+          says = ap (λ c. allSaidIn R (foundAmong (c .points))) e ∙ ap₂ (λ (d : Decoded) (b : List ℕ). record { «record» = d; payload = b } ∷ later) (sym i) bytes;
           at = ap (λ c. c .at) e;
           stop = ap (λ c. c .stop) e;
         }
@@ -146,7 +146,7 @@ module _ (a : ℕ) (h : 0 < a) where
     one pre rest =
         let R : List ℕ = pre ++ (s ++ rest) in
         let e = turn R (length pre) (s ++ rest) _ (drop-append-seam pre (s ++ rest)) (f rest) in
-        record { says = ap (λ c. allSaidIn R (found (c .points))) e; at = ap (λ c. c .at) e; stop = ap (λ c. c .stop) e }
+        record { says = ap (λ c. allSaidIn R (foundAmong (c .points))) e; at = ap (λ c. c .at) e; stop = ap (λ c. c .stop) e }
 
   -- a tail t behind a front
   module _ (pre t : List ℕ) where
@@ -158,11 +158,11 @@ module _ (a : ℕ) (h : 0 < a) where
     after-skip n e = at-erased (length pre + n) (drop n t) (drop-append-add pre t n) e
 
     -- in a calm tail the walk finds nothing
-    none-found : Calm t (stands a t) → found (walk (plain a) (pre ++ t) (length pre) .points) ≡ []
-    none-found c = ap (λ w. found (w .points)) (turn (pre ++ t) (length pre) t (stands a t) (drop-append-seam pre t) refl) ∙ go (stands a t) c where
-      go : (x : Stand) → Calm t x → found (onward (length pre) x (λ n. walk (plain a) (pre ++ t) (length pre + n)) .points) ≡ []
+    none-found : Calm t (stands a t) → foundAmong (walk (plain a) (pre ++ t) (length pre) .points) ≡ []
+    none-found c = ap (λ w. foundAmong (w .points)) (turn (pre ++ t) (length pre) t (stands a t) (drop-append-seam pre t) refl) ∙ go (stands a t) c where
+      go : (x : Stand) → Calm t x → foundAmong (onward (length pre) x (λ n. walk (plain a) (pre ++ t) (length pre + n)) .points) ≡ []
       go (Met x) k = absurd k
-      go (Passed n) k = ap (λ w. found (w .points)) (after-skip n k)
+      go (Passed n) k = ap (λ w. foundAmong (w .points)) (after-skip n k)
       go (Over e) k = refl
 
     -- the walk skips the first bytes of t, up to o, and all behind them is erased
@@ -200,13 +200,13 @@ module _ (a : ℕ) (h : 0 < a) where
     from-start bs p = subst (λ n. Follows (pre ++ t) bs (walk (plain a) (pre ++ t) 0) (walk (plain a) (pre ++ t) n)) (omega arith) (p .over [] t)
 
   -- the walk over a region of this shape finds bs
-  pub finds : (region : List ℕ) (bs : List Given) → Shape a region bs → allSaidIn region (found (walk (plain a) region 0 .points)) ≡ allGiven bs
+  pub finds : (region : List ℕ) (bs : List Given) → Shape a region bs → allSaidIn region (foundAmong (walk (plain a) region 0 .points)) ≡ allGiven bs
   unfolding allSaidIn
   finds region bs v =
       let R : List ℕ = v .front ++ v .tail in
-      let all : allSaidIn R (found (walk (plain a) R 0 .points)) ≡ allGiven bs =
+      let all : allSaidIn R (foundAmong (walk (plain a) R 0 .points)) ≡ allGiven bs =
       from-start (v .front) (v .tail) bs (v .passes) .says ∙ ap (λ fs. allGiven bs ++ allSaidIn R fs) (none-found (v .front) (v .tail) (v .calm)) ∙ append-nil (allGiven bs) in
-      subst⁻¹ (λ r. allSaidIn r (found (walk (plain a) r 0 .points)) ≡ allGiven bs) (v .split) all
+      subst⁻¹ (λ r. allSaidIn r (foundAmong (walk (plain a) r 0 .points)) ≡ allGiven bs) (v .split) all
 
   -- where the walk over it ends clean, the region is ready at the offset it ends at, given that a skipped record stands alone
   pub opened-ready : (region : List ℕ) (bs : List Given) → ((t : List ℕ) (n : ℕ) → stands a t ≡ Passed n → (rest : List ℕ) → stands a (take n t ++ rest) ≡ Passed n)

@@ -30,6 +30,7 @@ pub record Kept (s : State) (bs : List Given) : Type 0 where
   pub is : bs ≡ s .book .records ++ (one ∷ behind)
 
 module _ (n a r : ℕ) where
+  -- the settings of the region
   abbrev pub units : Geometry
   units = record { bytes = n; «program_size» = a; «read_size» = r }
 
@@ -37,6 +38,7 @@ module _ (n a r : ℕ) where
   abbrev pub after : List Event → State
   after es = run a r (start n) es
 
+  -- what is claimed of a list
   pub record Claim (es : List Event) : Type 0 where
     -- calls that keep their promises come to what the papers' definitions give: the same refusals, the same state
     pub refuses : Exactly (Plays a r (start n) es) (record { verdicts = verdicts a r (start n) es; state = after es })

@@ -26,15 +26,15 @@ recordLine x =
 unfoldable pub totals : ℕ → ℕ → List ℕ
 totals n b = field n 44 ++ field b 10
 
--- a last line that begins with a word: where the recovery ended, its refusal, the totals
+-- a last line by its beginning: where the recovery ended, its refusal, the totals
 unfoldable pub lastLine : List ℕ → Stepped → ℕ → ℕ → List ℕ
-lastLine word x n b =
-    word
+lastLine start x n b =
+    start
     ++ (field (x .state .offset) 44
     ++ (field (answerRefusal (x .answer) .number) 44
     ++ totals n b))
 
--- what a last line begins with
+-- the beginning of a last line: `end` and how the recovery ended
 abbrev pub endWord : String → List ℕ
 endWord word = codes "end," ++ (codes word ++ (44 ∷ []))
 
@@ -46,6 +46,7 @@ endBy Unsealed x n b = lastLine (endWord "unsealed") x n b
 endBy Incomplete x n b = []
 endBy Open x n b = []
 
+-- the last line of a listing
 abbrev pub endLine : Stepped → ℕ → ℕ → List ℕ
 endLine x n b = endBy (x .state .ending) x n b
 

@@ -21,7 +21,7 @@ use Rattle.recovery.specs.declared.next.Ending.the-variants.{Open, Clean, Damag
 use Rattle.recovery.specs.declared.next.Found.{Found}
 use Rattle.recovery.specs.declared.next.Stepped.{Stepped}
 use Rattle.recovery.specs.Next.{answerRefusal, fresh}
-use Rattle.finish.specs.Finish.{found, lastOf}
+use Rattle.finish.specs.Finish.{foundAmong, lastOf}
 use Rattle.text.specs.Text.{codes, decimal, placeOf}
 use Rattle.text.proofs.Digits.{decimal-length, decimal-most}
 use Rattle.text.proofs.Puts.{puts-whole}
@@ -81,13 +81,13 @@ end-most Open x n b = omega arith
 
 -- the lines of a walk's records are at most three times as long as the bytes that it has before it
 module _ (region : List ℕ) (a : ℕ) (h : 0 < a) (l : length region ≤ 32768) where
-  walk-room : (o : ℕ) → length (recordLines (found (walk (plain a) region o .points))) ≤ 3 * (length region - o)
+  walk-room : (o : ℕ) → length (recordLines (foundAmong (walk (plain a) region o .points))) ≤ 3 * (length region - o)
   unfolding recordLines
   walk-room =
-      each-walk (plain a) (plain-steady a h) region (λ o w. length (recordLines (found (w .points))) ≤ 3 * (length region - o))
+      each-walk (plain a) (plain-steady a h) region (λ o w. length (recordLines (foundAmong (w .points))) ≤ 3 * (length region - o))
       (λ o x _ least most more.
       let f : Found = record { offset = o; «record» = x } in
-      let rest : List ℕ = recordLines (found (walk (plain a) region (o + x .len) .points)) in
+      let rest : List ℕ = recordLines (foundAmong (walk (plain a) region (o + x .len) .points)) in
       let one : length (recordLine f) ≤ 50 = line-most f (omega (arith, most, least)) in
       omega (arith, one, more, most, least, length-append (recordLine f) rest))
       (λ o n _ _ _ more. omega (arith, more))
@@ -102,7 +102,7 @@ module _ (a r : ℕ) (region : List ℕ) where
   unfolding linesOf
   walk-fits h e =
       let w : Walk = walk (plain a) region 0 in
-      let fs : List Found = found (w .points) in
+      let fs : List Found = foundAmong (w .points) in
       let last : Stepped = lastOf (fresh (record { bytes = length region; «program_size» = a; «read_size» = r })) w in
       let i : length (recordLines fs) ≤ 3 * (length region - 0) = walk-room region a (limits (length region) a r e .program-least) h 0 in
       omega (arith, i, end-most (last .state .ending) last (length fs) (recordBytes fs), length-append (recordLines fs) (endLine last (length fs) (recordBytes fs)))

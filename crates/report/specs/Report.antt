@@ -14,30 +14,31 @@ use Rattle.text.specs.declared.Number.{Number}
 use Rattle.text.specs.declared.Number.the-variants.{Value, Bad}
 use Rattle.text.specs.Text.{laidAt, endAt, placeOf, numberOf}
 use Rattle.place.specs.Walk.{plain, Walk, walk}
-use Rattle.recovery.specs.declared.next.Found.{Found}
+use Rattle.recovery.specs.declared.next.Found.{Found as OneFound}
 use Rattle.recovery.specs.declared.next.Stepped.{Stepped}
 use Rattle.recovery.specs.Next.{fresh}
-use Rattle.finish.specs.Finish.{found, lastOf}
+use Rattle.finish.specs.Finish.{foundAmong, lastOf}
 use Rattle.lines.specs.Lines.{recordLine, endLine, refusedLine}
 use Rattle.report.specs.declared.input.Units.{Units}
 use Rattle.report.specs.declared.input.Units.the-variants.{Given, Bad as NoUnits}
 
-unfoldable pub recordLines : List Found → List ℕ
+-- a line for each record
+unfoldable pub recordLines : List OneFound → List ℕ
 recordLines [] = []
 recordLines (x ∷ xs) = recordLine x ++ recordLines xs
 
 -- the sum of their record lengths
-unfoldable pub recordBytes : List Found → ℕ
+unfoldable pub recordBytes : List OneFound → ℕ
 recordBytes [] = 0
 recordBytes (x ∷ xs) = x .«record» .len + recordBytes xs
 
 -- the lines of the records found, then the line of the last step
-unfoldable pub linesOf : List Found → Stepped → List ℕ
+unfoldable pub linesOf : List OneFound → Stepped → List ℕ
 linesOf xs last = recordLines xs ++ endLine last (length xs) (recordBytes xs)
 
 -- the lines of a walk from a region's start
 abbrev pub walkLines : Geometry → Walk → List ℕ
-walkLines g w = linesOf (found (w .points)) (lastOf (fresh g) w)
+walkLines g w = linesOf (foundAmong (w .points)) (lastOf (fresh g) w)
 
 -- with the settings checked
 abbrev pub listedWith : List ℕ → Checked → List ℕ
@@ -66,6 +67,7 @@ givenBy (Value a) (Value r) = Given a r
 unfoldable pub unitsOf : List ℕ → Units
 unitsOf line = aroundFirst 44 line NoUnits (λ x y. givenBy (numberOf x) (numberOf y))
 
+-- a region under the units that its first line says
 abbrev pub listedBy : List ℕ → Units → List ℕ
 listedBy region NoUnits = refusedLine
 listedBy region (Given a r) = listedRegion a r region
