@@ -22,7 +22,7 @@ use Rattle.decode.specs.Decode.{headerAt, frameLenOf, frameLenRefusal, frameUnd
 use Rattle.place.specs.Stands.{standRefusal, settled, judged, shapeOf, stands}
 use Rattle.place.specs.Walk.{walkOver, walk}
 use Rattle.scan.specs.Scan.{stepRefusal, scanned, stepOf}
-use Rattle.recovery.specs.Reads.{capacityOf, laid, tailReads, further, wanted, made, seenBy, paged, readsAt, readsAll}
+use Rattle.look.specs.Reads.{capacityOf, laid, tailReads, further, wanted, made, seenBy, paged, readsAt, readsAll}
 use Rattle.recovery.specs.Next.{answerRefusal, walkFrom, pageAfter, before, step, fresh}
 use Rattle.finish.specs.Finish.{toEnd, founds}
 use Rattle.find.specs.Find.{findingRefusal, carries, kept, latest, findIn}

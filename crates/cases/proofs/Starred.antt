@@ -17,7 +17,7 @@ use Rattle.place.specs.Walk.{walkOver, walk}
 use Rattle.recovery.specs.declared.next.Ending.{Ending}
 use Rattle.recovery.specs.declared.next.Ending.the-variants.{Clean, Damaged}
 use Rattle.recovery.specs.declared.next.Stepped.{Stepped}
-use Rattle.recovery.specs.Reads.{capacityOf, laid, tailReads, further, wanted, made, seenBy, paged, readsAt, readsAll}
+use Rattle.look.specs.Reads.{capacityOf, laid, tailReads, further, wanted, made, seenBy, paged, readsAt, readsAll}
 use Rattle.recovery.specs.Next.{answerRefusal, walkFrom, pageAfter, before, step, fresh}
 
 pub data Case : Type 0 where

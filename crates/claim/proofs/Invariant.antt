@@ -23,7 +23,7 @@ use Rattle.frame.specs.declared.lengths.Size.the-variants.{Bytes as Long, Refus
 use Rattle.frame.specs.Lengths.{bodyLen, recordLen, payloadLen}
 use Rattle.frame.specs.Format.{sealOf, sealHolds}
 use Rattle.recovery.specs.Next.{fresh}
-use Rattle.recovery.proofs.Pages.{front-bytes, capacity-large}
+use Rattle.look.proofs.Pages.{front-bytes, capacity-large}
 use Rattle.finish.specs.Finish.{lastOf, founds, toEnd}
 use Rattle.place.specs.declared.Stop.{Stop}
 use Rattle.place.specs.declared.Stop.the-variants.{End, Bad, NoSeal, TooSmall}

@@ -38,10 +38,10 @@ use Rattle.recovery.specs.declared.next.Found.{Found as OneFound}
 use Rattle.recovery.specs.declared.next.Answer.{Answer}
 use Rattle.recovery.specs.declared.next.Answer.the-variants.{Found, Ended, Refused}
 use Rattle.recovery.specs.declared.next.Stepped.{Stepped}
-use Rattle.recovery.specs.Reads.{capacityOf, Read, laid, further, headerSize, wanted, made, seenBy, paged, readsAt, readsAll}
+use Rattle.look.specs.Reads.{capacityOf, Read, laid, further, headerSize, wanted, made, seenBy, paged, readsAt, readsAll}
 use Rattle.recovery.specs.Next.{lastAnswer, arrived, walkFrom, pageAfter, withPage, stepIn, step, NextStep, partAt}
-use Rattle.recovery.proofs.Fronts.{capped, front-read}
-use Rattle.recovery.proofs.Near.{paged-steady, laid-long, laid-append}
+use Rattle.look.proofs.Fronts.{capped, front-read}
+use Rattle.look.proofs.Near.{paged-steady, laid-long, laid-append}
 use Rattle.finish.proofs.Steps.{notFound, Before, looks, says, unless, view, IsBefore, is-before, step-view}
 use Rattle.claim.proofs.Said.{saidIn}
 

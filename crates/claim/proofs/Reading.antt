@@ -20,11 +20,11 @@ use Rattle.recovery.specs.declared.next.Recovery.{Recovery}
 use Rattle.recovery.specs.declared.next.Found.{Found as OneFound}
 use Rattle.recovery.specs.declared.next.Answer.{Answer}
 use Rattle.recovery.specs.declared.next.Answer.the-variants.{Found, Ended, Refused}
-use Rattle.recovery.specs.Reads.{capacityOf, paged}
+use Rattle.look.specs.Reads.{capacityOf, paged}
 use Rattle.recovery.specs.Next.{arrived, walkFrom, pageAfter, isOpen, before, Done, withPage, stepIn, step, NextStep, fresh}
 use Rattle.recovery.proofs.Runs.{next-step}
-use Rattle.recovery.proofs.Pages.{capacity-large}
-use Rattle.recovery.proofs.Near.{laid-long}
+use Rattle.look.proofs.Pages.{capacity-large}
+use Rattle.look.proofs.Near.{laid-long}
 use Rattle.finish.specs.Finish.{founds}
 use Rattle.finish.proofs.Steps.{Before, looks, says, unless, view, step-view, Rests, After, run-step, found-less}
 use Rattle.finish.proofs.Walks.{page-free}

@@ -12,9 +12,9 @@ use Rattle.storage.specs.declared.geometry.Geometry.{Geometry}
 use Rattle.storage.specs.declared.geometry.Checked.{Checked}
 use Rattle.storage.specs.declared.geometry.Checked.the-variants.{Allowed, Refused}
 use Rattle.storage.specs.Settings.{regionLength, programUnit, readUnit, allowed, settings}
-use Rattle.recovery.specs.Reads.{capacityOf}
+use Rattle.look.specs.Reads.{capacityOf}
 use Rattle.recovery.specs.Next.{fresh}
-use Rattle.recovery.proofs.Pages.{capacity-least}
+use Rattle.look.proofs.Pages.{capacity-least}
 use Rattle.finish.proofs.Walks.{run-covered}
 use Rattle.lines.specs.Lines.{refusedLine}
 use Rattle.report.specs.Report.{linesOf, listedWith}
