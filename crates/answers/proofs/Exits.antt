@@ -23,8 +23,8 @@ use Rattle.journal.specs.declared.Journal.{Journal}
 use Rattle.journal.specs.declared.Opening.{Opening}
 use Rattle.journal.specs.declared.Opening.the-variants.{Opened, Refused as NotOpened}
 use Rattle.counts.specs.Counts.{unwritten}
-use Rattle.append.specs.declared.step.Progress.{Progress}
-use Rattle.append.specs.declared.step.Progress.the-variants.{Staged, Confirmed, Committed, Refused as NoStep}
+use Rattle.progress.specs.declared.Progress.{Progress}
+use Rattle.progress.specs.declared.Progress.the-variants.{Staged, Confirmed, Committed, Refused as NoStep}
 use Rattle.numbers.specs.declared.refused.Refused.{Refused}
 use Rattle.numbers.specs.declared.decoded.ReadRecord.{ReadRecord}
 use Rattle.answers.specs.declared.stepped.FoundRecord.{FoundRecord}

@@ -14,9 +14,9 @@ use Rattle.journal.specs.declared.Journal.{Journal}
 use Rattle.journal.specs.declared.Opening.{Opening}
 use Rattle.journal.specs.declared.Opening.the-variants.{Opened, Refused as NotOpened}
 use Rattle.journal.specs.Opening.{openingRefusal}
-use Rattle.append.specs.declared.step.Progress.{Progress}
-use Rattle.append.specs.declared.step.Progress.the-variants.{Staged, Confirmed, Committed, Refused as NoStep}
-use Rattle.append.specs.Append.{progressRefusal}
+use Rattle.progress.specs.declared.Progress.{Progress}
+use Rattle.progress.specs.declared.Progress.the-variants.{Staged, Confirmed, Committed, Refused as NoStep}
+use Rattle.progress.specs.Phases.{progressRefusal}
 use Rattle.answers.specs.declared.stepped.RecoveryState.{RecoveryState}
 use Rattle.answers.specs.declared.stepped.ScanState.{ScanState}
 use Rattle.numbers.specs.Refusing.{refusedAs}

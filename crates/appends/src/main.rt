@@ -1,10 +1,8 @@
 // Appends to small regions and prints each step: records that go through, steps out of order, and what does not fit.
 mod out;
 
-use append::step::Advanced;
 use append::step::commit;
 use append::step::payload_barrier;
-use append::step::stage;
 use core::id::EffectSeq;
 use core::record::Record;
 use core::record::RecordKind;
@@ -15,6 +13,8 @@ use out::number;
 use out::refused;
 use out::show;
 use out::text;
+use progress::Advanced;
+use staging::step::stage;
 
 fn fired(seq: u32) -> Record {
     Record::new(RecordKind::TIMER_FIRED, EffectSeq(seq))

@@ -1,9 +1,9 @@
 // Words, numbers and a step's answer on standard output.
-use append::step::Advanced;
-use append::step::Progress;
 use core::error::Refusal;
 use counts::WriteAmplification;
 use libc::STDOUT_FILENO;
+use progress::Advanced;
+use progress::Progress;
 
 pub(crate) fn text(s: &[u8]) {
     io::write_all(STDOUT_FILENO, s);

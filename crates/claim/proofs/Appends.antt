@@ -32,7 +32,7 @@ use Rattle.roundtrip.specs.Typed.{AllBytes, Typed}
 use Rattle.roundtrip.proofs.Lists.{bytes-append, number-bytes, covered-bytes, payload-bytes}
 use Rattle.roundtrip.proofs.Frames.{payload-size, payload-small, payload-back, kind-known}
 use Rattle.roundtrip.proofs.RoundTrip.{Taken, body-length, encoded-length}
-use Rattle.append.specs.Append.{checkFor, bodyFor}
+use Rattle.staging.specs.Stage.{checkFor, bodyFor}
 use Rattle.claim.specs.Cuts.{Mixed, Cut}
 use Rattle.claim.specs.Saying.{Given, payloadFor, given}
 use Rattle.claim.proofs.Bits.{mixed-same, mixed-least}

@@ -8,7 +8,8 @@ use native.Mathlib.Omega.{arith}
 use Rattle.core.specs.declared.error.Refusal.{Refusal}
 use Rattle.storage.specs.Settings.{allowed}
 use Rattle.journal.specs.declared.Journal.{Journal}
-use Rattle.append.specs.Append.{isNext, committed}
+use Rattle.progress.specs.Phases.{isNext}
+use Rattle.append.specs.Append.{committed}
 use Rattle.claim.specs.Saying.{Given}
 use Rattle.claim.specs.Events.{Call, opening, stage, barrier, commit, Event, call, cut, cutIn, holds, Machine, machine, Verdict, unrefused, refusedWith, stepped, done, Way, nothing, under, Book, appended, told, toldCut, State, sealedIn, afterEvent, run, Valid, start}
 use Rattle.claim.specs.Claim.{Kept, after}

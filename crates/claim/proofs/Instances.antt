@@ -31,7 +31,9 @@ use Rattle.roundtrip.specs.Typed.{AllBytes, Typed}
 use Rattle.journal.specs.declared.Journal.{Journal}
 use Rattle.journal.specs.declared.Opening.{Opening}
 use Rattle.journal.specs.Opening.{openingOf}
-use Rattle.append.specs.Append.{unitOf, roomOf, stagedWith, asStaged, onDevice, underWay, begins, staged, isNext, confirmed, barred, afterCommit, committed}
+use Rattle.progress.specs.Phases.{unitOf, onDevice, isNext, confirmed}
+use Rattle.staging.specs.Stage.{roomOf, stagedWith, asStaged, underWay, begins, staged}
+use Rattle.append.specs.Append.{barred, afterCommit, committed}
 use Rattle.claim.specs.Cuts.{bit, Mixed, Cut}
 use Rattle.claim.specs.Saying.{Given, given, allGiven}
 use Rattle.claim.specs.Events.{Call, opening, stage, barrier, commit, Event, call, cut, cutIn, Held, none, holds, Machine, Verdict, Outcome, afterOpening, stepped, stepBy, done, Way, nothing, under, Book, told, State, sealedIn, called, cutOff, afterEvent, run, verdicts, Large, MayStand, MayBeCut, Allows, Valid, start}

@@ -37,7 +37,7 @@ use Rattle.place.specs.declared.Stand.the-variants.{Met, Passed}
 use Rattle.place.specs.Stands.{redeliverable, settled, judgedBy, judged, shapeOf, cleanOr, stands}
 use Rattle.place.proofs.Cases.{settled-case, judged-case, stands-case}
 use Rattle.place.proofs.Lengths.{near-stands}
-use Rattle.append.specs.Append.{checkFor, bodyFor}
+use Rattle.staging.specs.Stage.{checkFor, bodyFor}
 use Rattle.claim.proofs.Calm.{Calm}
 
 -- parts of erased bytes

@@ -9,8 +9,11 @@ use Rattle.storage.specs.Settings.{allowed}
 use Rattle.journal.specs.declared.Journal.{Journal}
 use Rattle.journal.specs.Opening.{opened}
 use Rattle.journal.proofs.Openings.{opens-by}
-use Rattle.append.specs.Append.{StepLeft, isNext, staged, barred, committed}
-use Rattle.append.proofs.Onward.{stages-by, confirms-by, commits-by}
+use Rattle.progress.specs.Phases.{StepLeft, isNext}
+use Rattle.staging.specs.Stage.{staged}
+use Rattle.append.specs.Append.{barred, committed}
+use Rattle.staging.proofs.Staging.{stages-by}
+use Rattle.append.proofs.Onward.{confirms-by, commits-by}
 use Rattle.claim.specs.Events.{Call, opening, stage, barrier, commit, Event, call, cut, cutIn, Held, holds, Machine, Outcome, afterOpening, stepped, stepBy, done, State, sealedIn, called, cutOff, afterEvent, run, verdicts, MayStand, Valid}
 use Rattle.claim.specs.Promised.{Made, opens, stages, confirms, commits, Result, Plays, rests, calls, cuts, cutsIn}
 use Rattle.claim.specs.Claim.{Exactly}

@@ -19,7 +19,7 @@ use Rattle.frame.specs.Format.{sealOf}
 use Rattle.payload.specs.declared.Decoded.the-variants.{Record as Known}
 use Rattle.payload.specs.Payload.{part}
 use Rattle.recovery.specs.Next.{fresh}
-use Rattle.append.specs.Append.{checkFor, bodyFor}
+use Rattle.staging.specs.Stage.{checkFor, bodyFor}
 use Rattle.claim.specs.Saying.{Given, Said, payloadFor, allGiven}
 use Rattle.claim.specs.Events.{Call, opening, stage, barrier, commit, Event, call, cut, cutIn}
 use Rattle.claim.specs.Events.{Verdict, unrefused, refusedWith, Way, nothing, under, Book}

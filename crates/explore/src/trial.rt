@@ -11,13 +11,13 @@ use crate::book::lost;
 use crate::book::payload_bytes;
 use crate::book::record_of;
 use crate::tear::loosen;
-use append::step::Advanced;
-use append::step::Progress;
 use append::step::commit;
 use append::step::payload_barrier;
-use append::step::stage;
 use journal::Journal;
 use journal::Opening;
+use progress::Advanced;
+use progress::Progress;
+use staging::step::stage;
 use storage::media::read;
 
 // What a try came to.

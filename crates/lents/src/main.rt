@@ -3,10 +3,8 @@
 mod held;
 mod same;
 
-use append::step::Advanced;
 use append::step::commit;
 use append::step::payload_barrier;
-use append::step::stage;
 use core::id::EffectSeq;
 use core::record::Record;
 use core::record::RecordKind;
@@ -14,8 +12,10 @@ use core::timer::ClockKind;
 use counts::WriteAmplification;
 use journal::Journal;
 use libc::STDOUT_FILENO;
+use progress::Advanced;
 use same::is_refused;
 use same::same_answer;
+use staging::step::stage;
 use storage::geometry::Geometry;
 
 // The journal of each form, and how the steps so far went.

@@ -1,8 +1,8 @@
 // Whether two answers are the same: their journals, and what they say.
-use append::step::Advanced;
-use append::step::Progress;
 use counts::WriteAmplification;
 use journal::Journal;
+use progress::Advanced;
+use progress::Progress;
 use storage::geometry::Geometry;
 
 // What an answer says, as numbers.

@@ -4,11 +4,12 @@
 ghost use mathlib.Core.Path.{_≡_};
 ghost use Rattle.recovery.specs.Next.{NextStep, partAt};
 ghost use Rattle.journal.specs.Opening.{Opens};
-ghost use Rattle.append.specs.Append.{Stages, Confirms, Commits};
-use append::step::Advanced;
+ghost use Rattle.staging.specs.Stage.{Stages};
+ghost use Rattle.append.specs.Append.{Confirms, Commits};
 use core::record::Record;
 use journal::Journal;
 use journal::Opening;
+use progress::Advanced;
 use recovery::next::Recovery;
 use recovery::next::Stepped;
 
@@ -27,7 +28,7 @@ fn stages(
 ) -> Advanced
     ensures { λ r. ⌜ Stages journal «record» (now (free .entry)) (now (region .entry)) (now (page .entry)) r (now (region .exit)) (now (page .exit)) ⌝ }
 {
-    append::step::stage(journal, record, free, region, page)
+    staging::step::stage(journal, record, free, region, page)
 }
 
 fn confirms(journal: Journal, region: &[u8]) -> Advanced

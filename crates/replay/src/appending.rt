@@ -9,14 +9,14 @@ use crate::values::bytes_at;
 use crate::values::bytes_end;
 use crate::values::le16;
 use crate::values::skip;
-use append::step::Advanced;
-use append::step::Progress;
 use append::step::commit;
 use append::step::payload_barrier;
-use append::step::stage;
 use counts::WriteAmplification;
 use journal::Journal;
 use journal::Opening;
+use progress::Advanced;
+use progress::Progress;
+use staging::step::stage;
 use storage::geometry::Geometry;
 use storage::media::read;
 
