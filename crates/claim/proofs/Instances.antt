@@ -47,50 +47,50 @@ use Rattle.claim.proofs.Demand3.{demand-3}
 -- # The test
 
 -- the page that it lends
-abbrev spare : List ℕ
+abbrev pub spare : List ℕ
 spare = replicate 64 0
 
-abbrev opensBy : Walk → Opening
+abbrev pub opensBy : Walk → Opening
 opensBy w = openingOf (units 64 4 1) (lastOf (fresh (units 64 4 1)) w)
 
 -- what a call comes to, an opening by the walk without a page
-abbrev plainly : Machine → Call → Outcome
+abbrev pub plainly : Machine → Call → Outcome
 plainly m (opening page) = let w : Walk = walk (plain 4) (m .region) 0 in afterOpening m (opensBy w)
 plainly m (stage x page) = done 4 1 m (stage x spare)
 plainly m barrier = done 4 1 m barrier
 plainly m commit = done 4 1 m commit
 
 -- 0 where every number is within its type
-abbrev excess : Record → ℕ
+abbrev pub excess : Record → ℕ
 excess y =
     y .kind .0 / 256 + y .seq .0 / 4294967296 + y .«workflow_kind» / 65536 + y .«workflow_version» / 65536
     + y .activity .0 / 65536 + y .«input_len» / 65536 + y .«input_crc» / 4294967296 + y .«clock_kind» .0 / 256
     + y .deadline / 18446744073709551616 + y .«armed_at» / 18446744073709551616 + y .gate .0 / 65536 + y .version / 65536
 
-abbrev typed : Given → Bool
+abbrev pub typed : Given → Bool
 typed x = eqb (excess (x .«record»)) 0 && areBytes (x .free)
 
-abbrev isNothing : Way → Bool
+abbrev pub isNothing : Way → Bool
 isNothing nothing = true
 isNothing (under x) = false
 
-abbrev mayStand : Book → Call → Bool
+abbrev pub mayStand : Book → Call → Bool
 mayStand b (opening page) = isNothing (b .way)
 mayStand b (stage x page) = b .journal && typed x
 mayStand b barrier = b .journal
 mayStand b commit = b .journal
 
-abbrev mayBeCut : Book → Call → Bool
+abbrev pub mayBeCut : Book → Call → Bool
 mayBeCut b (opening page) = true
 mayBeCut b (stage x page) = mayStand b (stage x page)
 mayBeCut b barrier = mayStand b barrier
 mayBeCut b commit = mayStand b commit
 
 -- no bit of t differs from both that of x and that of y
-abbrev mixes : ℕ → ℕ → ℕ → Bool
+abbrev pub mixes : ℕ → ℕ → ℕ → Bool
 mixes x y t = eqb (bitAnd (bitXor t x) (bitXor t y)) 0
 
-abbrev mayLeave : List ℕ → List ℕ → List ℕ → Bool
+abbrev pub mayLeave : List ℕ → List ℕ → List ℕ → Bool
 mayLeave [] [] [] = true
 mayLeave [] [] (t ∷ ts) = false
 mayLeave [] (y ∷ ys) ts = false
@@ -99,18 +99,18 @@ mayLeave (x ∷ xs) (y ∷ ys) [] = false
 mayLeave (x ∷ xs) (y ∷ ys) (t ∷ ts) = mixes x y t && mayLeave xs ys ts
 
 -- whether a list is valid, what its calls come to, and its book
-record Trace : Type 0 where
-  valid : Bool
-  verdicts : List Verdict
-  book : Book
+pub record Trace : Type 0 where
+  pub valid : Bool
+  pub verdicts : List Verdict
+  pub book : Book
 
-abbrev checked : Bool → Trace → Trace
+abbrev pub checked : Bool → Trace → Trace
 checked b z = record { valid = b && z .valid; verdicts = z .verdicts; book = z .book }
 
-abbrev answered : Verdict → Trace → Trace
+abbrev pub answered : Verdict → Trace → Trace
 answered v z = record { valid = z .valid; verdicts = v ∷ z .verdicts; book = z .book }
 
-traced : State → List Entry → Trace
+unfoldable pub traced : State → List Entry → Trace
 traced s [] = record { valid = true; verdicts = []; book = s .book }
 traced s (does c v ∷ es) =
     let o : Outcome = plainly (s .machine) c in
@@ -121,10 +121,10 @@ traced s (tornIn c t ∷ es) =
     checked (mayBeCut (s .book) c && mayLeave (s .machine .base) (o .left .region) t)
     (traced (cutOff s (sealedIn 4 s c t) t) es)
 
-abbrev tried : Row → Trace
+abbrev pub tried : Row → Trace
 tried x = traced (start 64) (x .entries)
 
-abbrev expected : Row → Trace
+abbrev pub expected : Row → Trace
 expected x = record { valid = true; verdicts = answers (x .entries); book = x .book }
 
 -- the whole table, computed
@@ -346,7 +346,8 @@ row-holds x e page h =
           (demand-3 64 4 1 allows (events page (x .entries)) (y .valid) .finds-book pages large);
     }
 
-rows-hold : (xs : List Row) → map tried xs ≡ map expected xs → AllHold xs
+-- so do all rows of a list that it passes
+pub rows-hold : (xs : List Row) → map tried xs ≡ map expected xs → AllHold xs
 rows-hold [] e = _
 rows-hold (x ∷ xs) e = (row-holds x (cc), rows-hold xs (cc))
 

@@ -1,0 +1,2 @@
+-- The instances of demand 3, computed.
+pub mod Tried

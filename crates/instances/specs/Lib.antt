@@ -1,0 +1,2 @@
+-- Instances of demand 3.
+pub mod Table
