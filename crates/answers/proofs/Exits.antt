@@ -18,23 +18,14 @@ use Rattle.scan.specs.declared.Scanned.{Scanned}
 use Rattle.scan.specs.declared.Scanned.the-variants.{Found as ScanFound, Ended as ScanEnded, Refused as ScanRefused}
 use Rattle.find.specs.declared.Finding.{Finding}
 use Rattle.find.specs.declared.Finding.the-variants.{At, Nowhere, Refused as NotSearched}
-use Rattle.counts.specs.declared.WriteAmplification.{WriteAmplification}
-use Rattle.journal.specs.declared.Journal.{Journal}
-use Rattle.journal.specs.declared.Opening.{Opening}
-use Rattle.journal.specs.declared.Opening.the-variants.{Opened, Refused as NotOpened}
-use Rattle.counts.specs.Counts.{unwritten}
-use Rattle.progress.specs.declared.Progress.{Progress}
-use Rattle.progress.specs.declared.Progress.the-variants.{Staged, Confirmed, Committed, Refused as NoStep}
 use Rattle.numbers.specs.declared.refused.Refused.{Refused}
 use Rattle.numbers.specs.declared.decoded.ReadRecord.{ReadRecord}
 use Rattle.answers.specs.declared.stepped.FoundRecord.{FoundRecord}
 use Rattle.answers.specs.declared.stepped.RecoveryState.{RecoveryState}
 use Rattle.answers.specs.declared.stepped.ScanState.{ScanState}
-use Rattle.answers.specs.declared.opened.AdvancedJournal.{AdvancedJournal}
 use Rattle.numbers.specs.Refusing.{notRefused, refusedBy}
 use Rattle.numbers.specs.Reading.{readAs}
 use Rattle.answers.specs.Stepping.{foundAs, noFound, endingNumber, endingOf, recoveryOf, stateOf, stateAfter, recoveryStepTo, scanStateOf, scanStateAfter, scanStepTo, findingBy}
-use Rattle.answers.specs.Appending.{noJournal, openedBy, advancedTo, progressBy}
 
 -- endings
 module _ (n : ℕ) where
@@ -91,28 +82,30 @@ pub found-as : (o : ℕ) (x : Sealed) (y : ReadRecord) → y ≡ readAs (x .«re
     → record { offset = o; len = x .len; «record» = y .«record»; free = y .free; payload = x .payload } ≡ foundAs o x
 found-as o x y f = rw f
 
--- steps; s is the state t as it was made into numbers
+-- steps; s is the state t as it was made into numbers, u what stands where nothing is found
 module _ (t s : RecoveryState) (h : s ≡ t) (z : Answer) where
   pub step-found : (x : OneFound) (y : FoundRecord) → z ≡ Found x → y ≡ foundAs (x .offset) (x .«record»)
       → record { state = s; refused = notRefused; «is_found» = 1; found = y } ≡ recoveryStepTo t z
   step-found x y f g = rw (f, g, h)
 
-  pub step-ended : z ≡ Ended → record { state = s; refused = notRefused; «is_found» = 0; found = noFound } ≡ recoveryStepTo t z
-  step-ended f = rw (f, h)
+  pub step-ended : (u : FoundRecord) → z ≡ Ended → u ≡ noFound → record { state = s; refused = notRefused; «is_found» = 0; found = u } ≡ recoveryStepTo t z
+  step-ended u f g = rw (f, g, h)
 
-  pub step-refused : (e : Refusal) (y : Refused) → z ≡ NoRecord e → y ≡ refusedBy e → record { state = s; refused = y; «is_found» = 0; found = noFound } ≡ recoveryStepTo t z
-  step-refused e y f g = rw (f, g, h)
+  pub step-refused : (e : Refusal) (y : Refused) (u : FoundRecord) → z ≡ NoRecord e → y ≡ refusedBy e → u ≡ noFound
+      → record { state = s; refused = y; «is_found» = 0; found = u } ≡ recoveryStepTo t z
+  step-refused e y u f g i = rw (f, g, i, h)
 
 module _ (t s : ScanState) (h : s ≡ t) (z : Scanned) where
   pub scan-found : (x : Sealed) (o : ℕ) (y : FoundRecord) → z ≡ ScanFound x o → y ≡ foundAs o x
       → record { state = s; refused = notRefused; «is_found» = 1; found = y } ≡ scanStepTo t z
   scan-found x o y f g = rw (f, g, h)
 
-  pub scan-ended : z ≡ ScanEnded → record { state = s; refused = notRefused; «is_found» = 0; found = noFound } ≡ scanStepTo t z
-  scan-ended f = rw (f, h)
+  pub scan-ended : (u : FoundRecord) → z ≡ ScanEnded → u ≡ noFound → record { state = s; refused = notRefused; «is_found» = 0; found = u } ≡ scanStepTo t z
+  scan-ended u f g = rw (f, g, h)
 
-  pub scan-refused : (e : Refusal) (y : Refused) → z ≡ ScanRefused e → y ≡ refusedBy e → record { state = s; refused = y; «is_found» = 0; found = noFound } ≡ scanStepTo t z
-  scan-refused e y f g = rw (f, g, h)
+  pub scan-refused : (e : Refusal) (y : Refused) (u : FoundRecord) → z ≡ ScanRefused e → y ≡ refusedBy e → u ≡ noFound
+      → record { state = s; refused = y; «is_found» = 0; found = u } ≡ scanStepTo t z
+  scan-refused e y u f g i = rw (f, g, i, h)
 
 -- find
 module _ (z : Finding) where
@@ -124,25 +117,3 @@ module _ (z : Finding) where
 
   pub finding-refused : (e : Refusal) (y : Refused) → z ≡ NotSearched e → y ≡ refusedBy e → record { refused = y; «is_found» = 0; offset = 0 } ≡ findingBy z
   finding-refused e y f g = rw (f, g)
-
--- openings
-module _ (z : Opening) where
-  pub opened-journal : (j : Journal) → z ≡ Opened j → record { refused = notRefused; journal = j } ≡ openedBy z
-  opened-journal j f = rw f
-
-  pub opened-refused : (e : Refusal) (y : Refused) → z ≡ NotOpened e → y ≡ refusedBy e → record { refused = y; journal = noJournal } ≡ openedBy z
-  opened-refused e y f g = rw (f, g)
-
--- the steps of an append; r is the answer that was made
-module _ (j : Journal) (z : Progress) where
-  pub progress-staged : (r : AdvancedJournal) → z ≡ Staged → r ≡ advancedTo j unwritten → r ≡ progressBy j z
-  progress-staged r f g = g ∙ rw f
-
-  pub progress-confirmed : (r : AdvancedJournal) → z ≡ Confirmed → r ≡ advancedTo j unwritten → r ≡ progressBy j z
-  progress-confirmed r f g = g ∙ rw f
-
-  pub progress-committed : (w : WriteAmplification) (r : AdvancedJournal) → z ≡ Committed w → r ≡ advancedTo j w → r ≡ progressBy j z
-  progress-committed w r f g = g ∙ rw f
-
-  pub progress-refused : (e : Refusal) (y : Refused) → z ≡ NoStep e → y ≡ refusedBy e → record { journal = j; refused = y; written = unwritten } ≡ progressBy j z
-  progress-refused e y f g = rw (f, g)

@@ -10,18 +10,10 @@ use Rattle.scan.specs.Scan.{scannedRefusal}
 use Rattle.find.specs.declared.Finding.{Finding}
 use Rattle.find.specs.declared.Finding.the-variants.{At, Nowhere, Refused as NotSearched}
 use Rattle.find.specs.Find.{findingRefusal}
-use Rattle.journal.specs.declared.Journal.{Journal}
-use Rattle.journal.specs.declared.Opening.{Opening}
-use Rattle.journal.specs.declared.Opening.the-variants.{Opened, Refused as NotOpened}
-use Rattle.journal.specs.Opening.{openingRefusal}
-use Rattle.progress.specs.declared.Progress.{Progress}
-use Rattle.progress.specs.declared.Progress.the-variants.{Staged, Confirmed, Committed, Refused as NoStep}
-use Rattle.progress.specs.Phases.{progressRefusal}
 use Rattle.answers.specs.declared.stepped.RecoveryState.{RecoveryState}
 use Rattle.answers.specs.declared.stepped.ScanState.{ScanState}
 use Rattle.numbers.specs.Refusing.{refusedAs}
 use Rattle.answers.specs.Stepping.{recoveryStepTo, scanStepTo, findingBy}
-use Rattle.answers.specs.Appending.{openedBy, progressBy}
 
 pub step-numbers : (s : RecoveryState) (z : Answer) → recoveryStepTo s z .refused ≡ refusedAs (answerRefusal z)
 step-numbers s (Found x) = refl
@@ -37,13 +29,3 @@ pub finding-numbers : (z : Finding) → findingBy z .refused ≡ refusedAs (find
 finding-numbers (At o) = refl
 finding-numbers Nowhere = refl
 finding-numbers (NotSearched e) = refl
-
-pub opening-numbers : (z : Opening) → openedBy z .refused ≡ refusedAs (openingRefusal z)
-opening-numbers (Opened j) = refl
-opening-numbers (NotOpened e) = refl
-
-pub progress-numbers : (j : Journal) (z : Progress) → progressBy j z .refused ≡ refusedAs (progressRefusal z)
-progress-numbers j Staged = refl
-progress-numbers j Confirmed = refl
-progress-numbers j (Committed w) = refl
-progress-numbers j (NoStep e) = refl

@@ -1,3 +1,2 @@
 -- The definitions of the answers as numbers.
 pub mod Stepping
-pub mod Appending

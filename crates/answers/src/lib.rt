@@ -1,3 +1,2 @@
-// The answers of recovery, scan, find and append as numbers in structs, in the form in which C takes them.
-pub mod opened;
+// The answers of recovery, scan and find as numbers in structs, in the form in which C takes them.
 pub mod stepped;

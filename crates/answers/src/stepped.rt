@@ -1,6 +1,6 @@
 // Recovery, scan and find as numbers: their states in both directions, and their answers.
 ghost use mathlib.Core.Path.{_≡_};
-ghost use Rattle.answers.specs.Stepping.{foundAs, endingNumber, endingOf, recoveryOf, stateOf, stateAfter, recoveryStepBy, scanOf, scanStateOf, scanStateAfter, scanStepBy, findingBy};
+ghost use Rattle.answers.specs.Stepping.{foundAs, noFound, endingNumber, endingOf, recoveryOf, stateOf, stateAfter, recoveryStepBy, scanOf, scanStateOf, scanStateAfter, scanStepBy, findingBy};
 use core::record::Part;
 use core::record::Record;
 use find::Finding;
@@ -70,13 +70,17 @@ pub struct FoundAt {
 }
 
 // What stands where nothing is found.
-const NOTHING: FoundRecord = FoundRecord {
-    offset: 0,
-    len: 0,
-    record: NO_RECORD,
-    free: NO_PART,
-    payload: NO_PART,
-};
+fn nothing() -> FoundRecord
+    ensures { λ r. ⌜ r ≡ noFound ⌝ }
+{
+    FoundRecord {
+        offset: 0,
+        len: 0,
+        record: NO_RECORD,
+        free: NO_PART,
+        payload: NO_PART,
+    }
+}
 
 fn found_as(offset: usize, sealed: Sealed) -> FoundRecord
     ensures { λ r. ⌜ r ≡ foundAs offset sealed ⌝ }
@@ -184,7 +188,7 @@ pub fn step_by(before: RecoveryState, x: Stepped) -> RecoveryStep
                 state,
                 refused: NONE,
                 is_found: 0,
-                found: NOTHING,
+                found: nothing(),
             };
         }
         Answer::Refused(refusal) => {
@@ -193,7 +197,7 @@ pub fn step_by(before: RecoveryState, x: Stepped) -> RecoveryStep
                 state,
                 refused,
                 is_found: 0,
-                found: NOTHING,
+                found: nothing(),
             };
         }
     }
@@ -255,7 +259,7 @@ pub fn scan_step_by(before: ScanState, x: scan::ScanStepped) -> ScanStep
                 state,
                 refused: NONE,
                 is_found: 0,
-                found: NOTHING,
+                found: nothing(),
             };
         }
         Scanned::Refused(refusal) => {
@@ -264,7 +268,7 @@ pub fn scan_step_by(before: ScanState, x: scan::ScanStepped) -> ScanStep
                 state,
                 refused,
                 is_found: 0,
-                found: NOTHING,
+                found: nothing(),
             };
         }
     }

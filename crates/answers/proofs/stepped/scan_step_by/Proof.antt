@@ -20,6 +20,9 @@ returns c = search (scan-found, needs)
 enum-told : tie.Need-enum-told
 enum-told c = search needs
 
+nothing-requires : tie.Need-nothing-requires
+nothing-requires c κs = search needs
+
 returns-2 : tie.Need-returns-2
 returns-2 c = search (scan-ended, needs)
 
@@ -28,6 +31,9 @@ enum-known-answer-2 c = search needs
 
 refused-by-requires : tie.Need-refused-by-requires
 refused-by-requires c κs = search needs
+
+nothing-requires-2 : tie.Need-nothing-requires-2
+nothing-requires-2 c κs = search needs
 
 returns-3 : tie.Need-returns-3
 returns-3 c = search (scan-refused, needs)
@@ -41,7 +47,9 @@ scan-step-by-spec =
     found-as-requires
     returns
     enum-told
+    nothing-requires
     returns-2
     enum-known-answer-2
     refused-by-requires
+    nothing-requires-2
     returns-3)

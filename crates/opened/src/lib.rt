@@ -1,6 +1,6 @@
-// An opening and the steps of an append as numbers.
+// An opening and the steps of an append as numbers in structs, in the form in which C takes them.
 ghost use mathlib.Core.Path.{_≡_};
-ghost use Rattle.answers.specs.Appending.{openedBy, advancedTo, advancedBy};
+ghost use Rattle.opened.specs.Appending.{openedBy, advancedTo, advancedBy};
 use counts::WriteAmplification;
 use journal::Journal;
 use journal::Opening;

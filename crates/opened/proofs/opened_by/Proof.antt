@@ -1,9 +1,9 @@
--- `answers::opened::opened_by` meets its contract: one law for each exit.
+-- `opened::opened_by` meets its contract: one law for each exit.
 -- Assumes nothing.
-use Rattle.answers.proofs.Exits.{opened-journal, opened-refused}
+use Rattle.opened.proofs.Exits.{opened-journal, opened-refused}
 use borrow.Author.Needs.{needs}
-use Rattle.answers.proofs.opened.opened_by.Statement.{statement}
-use Rattle.answers.proofs.opened.opened_by.Tie as tie
+use Rattle.opened.proofs.opened_by.Statement.{statement}
+use Rattle.opened.proofs.opened_by.Tie as tie
 
 enum-known-opening : tie.Need-enum-known-opening
 enum-known-opening c = search needs

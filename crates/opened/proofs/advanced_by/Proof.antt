@@ -1,9 +1,9 @@
--- `answers::opened::advanced_by` meets its contract: one law for each answer.
+-- `opened::advanced_by` meets its contract: one law for each answer.
 -- Assumes nothing.
-use Rattle.answers.proofs.Exits.{progress-staged, progress-confirmed, progress-committed, progress-refused}
+use Rattle.opened.proofs.Exits.{progress-staged, progress-confirmed, progress-committed, progress-refused}
 use borrow.Author.Needs.{needs}
-use Rattle.answers.proofs.opened.advanced_by.Statement.{statement}
-use Rattle.answers.proofs.opened.advanced_by.Tie as tie
+use Rattle.opened.proofs.advanced_by.Statement.{statement}
+use Rattle.opened.proofs.advanced_by.Tie as tie
 
 enum-told : tie.Need-enum-told
 enum-told c = search needs
