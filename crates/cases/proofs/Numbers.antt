@@ -27,8 +27,8 @@ use Rattle.recovery.specs.Next.{answerRefusal, walkFrom, pageAfter, before, ste
 use Rattle.finish.specs.Finish.{toEnd, founds}
 use Rattle.find.specs.Find.{findingRefusal, carries, kept, latest, findIn}
 use Rattle.journal.specs.Opening.{openingRefusal, ready, opened}
-use Rattle.progress.specs.Phases.{progressRefusal, StepLeft, onDevice, isNext, confirmed}
-use Rattle.staging.specs.Stage.{asStaged, underWay, begins, staged}
+use Rattle.progress.specs.Phases.{progressRefusal, StepLeft, onDevice, isNext, confirmed, underWay}
+use Rattle.staging.specs.Stage.{asStaged, begins, staged}
 use Rattle.append.specs.Append.{barred, afterCommit, committed}
 
 -- a timer fired, sequence 7

@@ -31,8 +31,8 @@ use Rattle.roundtrip.specs.Typed.{AllBytes, Typed}
 use Rattle.journal.specs.declared.Journal.{Journal}
 use Rattle.journal.specs.declared.Opening.{Opening}
 use Rattle.journal.specs.Opening.{openingOf}
-use Rattle.progress.specs.Phases.{unitOf, onDevice, isNext, confirmed}
-use Rattle.staging.specs.Stage.{roomOf, stagedWith, asStaged, underWay, begins, staged}
+use Rattle.progress.specs.Phases.{unitOf, onDevice, isNext, confirmed, underWay}
+use Rattle.staging.specs.Stage.{roomOf, stagedWith, asStaged, begins, staged}
 use Rattle.append.specs.Append.{barred, afterCommit, committed}
 use Rattle.claim.specs.Cuts.{bit, Mixed, Cut}
 use Rattle.claim.specs.Saying.{Given, given, allGiven}

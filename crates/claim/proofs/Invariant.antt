@@ -37,8 +37,8 @@ use Rattle.journal.specs.declared.Journal.{Journal}
 use Rattle.journal.specs.declared.Opening.{Opening}
 use Rattle.journal.specs.declared.Opening.the-variants.{Opened, Refused as NotOpened}
 use Rattle.journal.specs.Opening.{ready, openingOf, opened}
-use Rattle.progress.specs.Phases.{unitOf, StepLeft, keeps as refusing, onDevice, isNext, confirmed}
-use Rattle.staging.specs.Stage.{checkFor, bodyFor, stagedWith, begins, staged, underWay}
+use Rattle.progress.specs.Phases.{unitOf, StepLeft, keeps as refusing, onDevice, isNext, confirmed, underWay}
+use Rattle.staging.specs.Stage.{checkFor, bodyFor, stagedWith, begins, staged}
 use Rattle.append.specs.Append.{barred, afterCommit, committed}
 use Rattle.counts.specs.Counts.{counts, unwritten as nothingWritten, plus}
 use Rattle.claim.specs.Cuts.{Cut}

@@ -12,8 +12,8 @@ use Rattle.payload.specs.Payload.{lengthFits, recordWith, wellFormed, bodyAt}
 use Rattle.decode.specs.Decode.{headerAt, frameUnder, decoded}
 use Rattle.place.specs.Stands.{settled, judged, shapeOf, stands}
 use Rattle.place.specs.Walk.{walkOver, walk}
-use Rattle.progress.specs.Phases.{onDevice, isNext, confirmed}
-use Rattle.staging.specs.Stage.{asStaged, underWay, begins, staged}
+use Rattle.progress.specs.Phases.{onDevice, isNext, confirmed, underWay}
+use Rattle.staging.specs.Stage.{asStaged, begins, staged}
 use Rattle.append.specs.Append.{barred, afterCommit, committed}
 use Rattle.claim.specs.Instances.{AllHold}
 use Rattle.claim.proofs.Instances.{traced, tried, expected, rows-hold}
