@@ -1,5 +1,5 @@
 #!/usr/bin/env python3
-"""Writes what the program checks must print, from values that this repository's code did not make.
+"""Writes what the program test_checks must print, from values that this repository's code did not make.
 
 The check values of 123456789 are the published ones of the two sequences, the good values those that RFC 1662 names.
 The tables come from Python's binascii: crc32 is the 32-bit sequence; crc_hqx is the 16-bit polynomial with the most

@@ -2,8 +2,6 @@
 ghost use Rattle.std.specs.Prelude.{◌≡◌, ◌<◌, get_or, take, drop};
 ghost use Rattle.frame.specs.Bytes.{value_at};
 
-use reader::Reader;
-
 fn wide(b: u8) -> u64
     ensures { (result ≡ b) × (result < 256) }
 {
@@ -23,7 +21,10 @@ pub fn byte(v: &[u8], at: usize) -> u8
 pub fn rest(v: &[u8], at: usize) -> &[u8]
     ensures { result.now ≡ drop at v.now }
 {
-    Reader { at }.rest(v)
+    if at < v.len() {
+        return &v[at..];
+    }
+    &v[..0]
 }
 
 // The first n bytes, or all if there are fewer.
