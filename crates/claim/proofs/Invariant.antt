@@ -40,7 +40,7 @@ use Rattle.journal.specs.Opening.{opening_of, opened}
 use Rattle.progress.specs.Phases.{unit_of, StepLeft, keeps as refusing, on_device, is_next, confirmed, under_way}
 use Rattle.staging.specs.Stage.{check_for, body_for, staged_with, begins, staged}
 use Rattle.append.specs.Append.{barred, after_commit, committed}
-use Rattle.counts.specs.Counts.{counts, unwritten as nothingWritten, plus}
+use Rattle.counts.specs.Counts.{counts, unwritten as nothing_written, plus}
 use Rattle.claim.specs.Cuts.{Cut}
 use Rattle.claim.specs.Saying.{Given, payload_for, all_given}
 use Rattle.claim.specs.Events.{Call, opening, stage, barrier, commit, Event, call, cut, cut_in, Held, none, holds, Machine, machine, refused_with, Outcome, outcome, after_opening, stepped, done, Torn, TornIn, lost, Way, nothing, under, whole_seal, sealed_in, State, called, cut_off, after_event, run, Large, MayBeMade, Allows, Valid, start}
@@ -136,7 +136,7 @@ module _ (n a r : ℕ) (ok : allowed n a r ≡ true) where
       P y = Inv (called (at (machine s s held) k nothing bs) (opening page) (after_opening (machine s s held) y))
 
       go : (e : Stop) → (walk (plain a) s 0).stop ≡ e → P (opening_of g (last_of (fresh g) (record { points = (walk (plain a) s 0).points; at = (walk (plain a) s 0).at; stop = e })))
-      go End f = ready_inv s (walk (plain a) s 0).at nothingWritten bs x (opened_ready a some s bs (skipped_local a some) v f)
+      go End f = ready_inv s (walk (plain a) s 0).at nothing_written bs x (opened_ready a some s bs (skipped_local a some) v f)
       go (Bad e) f = lost_inv s bs x v
       go NoSeal f = lost_inv s bs x v
       go (TooSmall m) f = lost_inv s bs x v
