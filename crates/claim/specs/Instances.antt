@@ -237,7 +237,8 @@ skipping =
     row (to_stage completed ++ torn (bodied blank 0 completed) ∷ goes an_opening ∷ appends armed)
     true nothing (armed ∷ [])
     -- kind 4
-    ∷ row (to_barrier failed ++ torn (bodied blank 0 failed) ∷ goes an_opening ∷ appends armed) true nothing (armed ∷ [])
+    ∷ row (to_barrier failed ++ torn (bodied blank 0 failed) ∷ goes an_opening ∷ appends armed) true nothing
+    (armed ∷ [])
     -- kind 6
     ∷ row (to_stage fired ++ torn (bodied blank 0 fired) ∷ goes an_opening ∷ appends armed
     ++ refused (a_stage fired) (NoRoom 20 4) ∷ [])

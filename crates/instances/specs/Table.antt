@@ -10,7 +10,8 @@ use Rattle.frame.specs.Format.{seal_of}
 use Rattle.staging.specs.Stage.{check_for}
 use Rattle.claim.specs.Saying.{Given, payload_for}
 use Rattle.claim.specs.Events.{barrier, commit, nothing}
-use Rattle.claim.specs.Instances.{Row, torn, torn_in, row, goes, refused, an_opening, a_stage, to_stage, to_barrier, appends}
+use Rattle.claim.specs.Instances.{Row, torn, torn_in, row, goes, refused, an_opening, a_stage}
+use Rattle.claim.specs.Instances.{to_stage, to_barrier, appends}
 use Rattle.claim.specs.Instances.{giving, started, scheduled, failed, armed, fired, marker, blank, bodied}
 
 -- # The words of a row
