@@ -1,3 +1,2 @@
 -- The laws of the answers as numbers.
-pub mod Exits
 pub mod Numbers

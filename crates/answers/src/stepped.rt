@@ -1,15 +1,16 @@
 // Recovery, scan and find as numbers: their states in both directions, and their answers.
-ghost use Rattle.std.specs.Prelude.{◌≡◌};
-ghost use Rattle.answers.specs.Stepping.{found_as, no_found, ending_number, ending_of, recovery_of, state_of, state_after};
-ghost use Rattle.answers.specs.Stepping.{recovery_step_by, scan_of, scan_state_of, scan_state_after, scan_step_by, finding_by};
+ghost use Rattle.std.specs.Prelude.{◌≡◌, MatchOption, MatchResult};
+ghost use Rattle.answers.specs.Stepping.{found_as, no_found, ending_of, recovery_of, state_of, recovery_step_by};
+ghost use Rattle.answers.specs.Stepping.{scan_of, scan_state_of, scan_step_by, finding_by};
+ghost use Rattle.numbers.specs.Refusing.{not_refused, refused_by};
 
-use find::Finding;
-use numbers::decoded::{NO_PART, NO_RECORD, read_as};
-use numbers::refused::{NONE, Refused, refused_by};
+use numbers::decoded::{NO_PART, NO_RECORD, ReadRecord};
+use numbers::refused::{NONE, Refused, apart};
 use place::Sealed;
-use recovery::next::{Answer, Ending, Recovery, Stepped};
-use scan::{Scan, Scanned};
+use recovery::next::{Ending, Found, Recovery, Stepped};
+use scan::{Scan, ScanStepped};
 use storage::geometry::Geometry;
+use waymaker_core::error::Refusal;
 use waymaker_core::record::{Part, Record};
 
 // A sealed record: its offset, its length with padding and slot, and its parts, counted from its own start.
@@ -29,17 +30,8 @@ pub struct FoundRecord {
 pub struct RecoveryState {
     pub geometry: Geometry,
     pub offset: u32,
+    // C may give any number, so that no enum stands here.
     pub ending: u8,
-}
-
-// A step that neither refuses nor finds has ended.
-#[repr(C)]
-#[derive(Clone, Copy)]
-pub struct RecoveryStep {
-    pub state: RecoveryState,
-    pub refused: Refused,
-    pub is_found: u8,
-    pub found: FoundRecord,
 }
 
 // A scan, which has stopped where its last number is not 0.
@@ -48,7 +40,19 @@ pub struct RecoveryStep {
 pub struct ScanState {
     pub align: usize,
     pub offset: usize,
+    // C may give any number, so that no bool stands here.
     pub stopped: u8,
+}
+
+// A step that neither refuses nor finds has ended. C has a flag in place of an Option, here and below, and its calls
+// have no type with arguments, so that this one and the next are two.
+#[repr(C)]
+#[derive(Clone, Copy)]
+pub struct RecoveryStep {
+    pub state: RecoveryState,
+    pub refused: Refused,
+    pub is_found: u8,
+    pub found: FoundRecord,
 }
 
 #[repr(C)]
@@ -68,236 +72,168 @@ pub struct FoundAt {
     pub offset: u32,
 }
 
-// What stands where nothing is found.
-fn nothing() -> FoundRecord
-    ensures { result ≡ no_found }
-{
-    FoundRecord {
-        offset: 0,
-        len: 0,
-        record: NO_RECORD,
-        free: NO_PART,
-        payload: NO_PART,
-    }
-}
+// What stands where nothing is found. Zeros written out, here and in the constants below it stands on: a Default would
+// offer values that no call gives.
+const NOTHING: FoundRecord = FoundRecord {
+    offset: 0,
+    len: 0,
+    record: NO_RECORD,
+    free: NO_PART,
+    payload: NO_PART,
+};
 
 fn found_as(offset: usize, sealed: Sealed) -> FoundRecord
     ensures { result ≡ found_as offset sealed }
 {
-    let found = sealed.record;
-    let payload = sealed.payload;
-    let read = read_as(found);
-    let record = read.record;
-    let free = read.free;
+    let read = ReadRecord::from(sealed.record);
     FoundRecord {
         offset,
         len: sealed.len,
-        record,
-        free,
-        payload,
+        record: read.record,
+        free: read.free,
+        payload: sealed.payload,
     }
 }
 
-fn ending_number(ending: Ending) -> u8
-    ensures { result ≡ ending_number ending }
-{
-    match ending {
-        Ending::Open => 0,
-        Ending::Clean => 1,
-        Ending::Damaged => 2,
-        Ending::Incomplete => 3,
-        Ending::Unsealed => 4,
+impl From<Found> for FoundRecord {
+    ghost from_gives = { λ found given. given ≡ found_as found.offset found.«record» };
+
+    fn from(found: Found) -> FoundRecord {
+        found_as(found.offset as usize, found.record)
     }
 }
 
+impl From<scan::Found> for FoundRecord {
+    ghost from_gives = { λ found given. given ≡ found_as found.offset found.«record» };
+
+    fn from(found: scan::Found) -> FoundRecord {
+        found_as(found.offset, found.record)
+    }
+}
+
+#[tactic(auto, unfolding(crate::specs::Stepping::ending_of))]
 fn ending_of(number: u8) -> Ending
     ensures { result ≡ ending_of number }
 {
-    if number == 0 {
-        return Ending::Open;
+    match number {
+        0 => Ending::Open,
+        1 => Ending::Clean,
+        2 => Ending::Damaged,
+        4 => Ending::Unsealed,
+        _ => Ending::Incomplete,
     }
-    if number == 1 {
-        return Ending::Clean;
-    }
-    if number == 2 {
-        return Ending::Damaged;
-    }
-    if number == 4 {
-        return Ending::Unsealed;
-    }
-    Ending::Incomplete
 }
 
-pub fn recovery_of(s: RecoveryState) -> Recovery
-    ensures { result ≡ recovery_of s }
+impl From<RecoveryState> for Recovery {
+    ghost from_gives = { λ state recovery. recovery ≡ recovery_of state };
+
+    fn from(state: RecoveryState) -> Recovery {
+        Recovery {
+            geometry: state.geometry,
+            offset: state.offset,
+            ending: ending_of(state.ending),
+        }
+    }
+}
+
+impl From<Recovery> for RecoveryState {
+    ghost from_gives = { λ recovery state. state ≡ state_of recovery };
+
+    fn from(recovery: Recovery) -> RecoveryState {
+        RecoveryState {
+            geometry: recovery.geometry,
+            offset: recovery.offset,
+            // Its variants are in the order of their numbers.
+            ending: recovery.ending as u8,
+        }
+    }
+}
+
+impl From<ScanState> for Scan {
+    ghost from_gives = { λ state scan. scan ≡ scan_of state };
+
+    fn from(state: ScanState) -> Scan {
+        Scan {
+            align: state.align,
+            offset: state.offset,
+            stopped: state.stopped != 0,
+        }
+    }
+}
+
+impl From<Scan> for ScanState {
+    ghost from_gives = { λ scan state. state ≡ scan_state_of scan };
+
+    fn from(scan: Scan) -> ScanState {
+        ScanState {
+            align: scan.align,
+            offset: scan.offset,
+            stopped: u8::from(scan.stopped),
+        }
+    }
+}
+
+// What a step answers beside its state: the refusal, whether a record is found, and the record.
+// The hint, and NOTHING in the arms and no argument, are for speed: a scan step took some 5 ns more without both.
+#[inline(always)]
+fn said<F: Into<FoundRecord>>(answer: Result<Option<F>, Refusal>) -> (Refused, u8, FoundRecord)
+    ensures { MatchResult answer
+        (λ found. MatchOption found (result ≡ (not_refused, 0, no_found))
+        (λ x. (result.0 ≡ not_refused) × (result.1 ≡ 1) × F.converts x result.2))
+        (λ e. result ≡ (refused_by e, 0, no_found)) }
 {
-    let geometry = s.geometry;
-    let offset = s.offset;
-    let ending = ending_of(s.ending);
-    Recovery {
-        geometry,
-        offset,
-        ending,
+    match answer {
+        Ok(Some(found)) => (NONE, 1, found.into()),
+        Ok(None) => (NONE, 0, NOTHING),
+        Err(refusal) => (Refused::from(refusal), 0, NOTHING),
     }
 }
 
-pub fn state_of(s: Recovery) -> RecoveryState
-    ensures { result ≡ state_of s }
-{
-    let geometry = s.geometry;
-    let offset = s.offset;
-    let ended = s.ending;
-    let ending = ending_number(ended);
-    RecoveryState {
-        geometry,
-        offset,
-        ending,
-    }
-}
-
-// The state behind a step; one that has ended comes back as it was.
-fn state_after(before: RecoveryState, after: Recovery) -> RecoveryState
-    ensures { result ≡ state_after before after }
-{
-    if before.ending != 0 {
-        return before;
-    }
-    state_of(after)
-}
-
+// A state that has ended comes back as it was, whatever its number.
 pub fn step_by(before: RecoveryState, x: Stepped) -> RecoveryStep
     ensures { result ≡ recovery_step_by before x }
 {
-    let after = x.state;
-    let state = state_after(before, after);
-    let answer = x.answer;
-    match answer {
-        Answer::Found(y) => {
-            let sealed = y.record;
-            let found = found_as(y.offset as usize, sealed);
-            return RecoveryStep {
-                state,
-                refused: NONE,
-                is_found: 1,
-                found,
-            };
-        }
-        Answer::Ended => {
-            return RecoveryStep {
-                state,
-                refused: NONE,
-                is_found: 0,
-                found: nothing(),
-            };
-        }
-        Answer::Refused(refusal) => {
-            let refused = refused_by(refusal);
-            return RecoveryStep {
-                state,
-                refused,
-                is_found: 0,
-                found: nothing(),
-            };
-        }
+    let state = if before.ending == 0 {
+        RecoveryState::from(x.state)
+    } else {
+        before
+    };
+    let (refused, is_found, found) = said(x.answer);
+    RecoveryStep {
+        state,
+        refused,
+        is_found,
+        found,
     }
 }
 
-pub fn scan_of(s: ScanState) -> Scan
-    ensures { result ≡ scan_of s }
-{
-    let stopped = s.stopped != 0;
-    Scan {
-        align: s.align,
-        offset: s.offset,
-        stopped,
-    }
-}
-
-pub fn scan_state_of(s: Scan) -> ScanState
-    ensures { result ≡ scan_state_of s }
-{
-    let mut stopped: u8 = 0;
-    if s.stopped {
-        stopped = 1;
-    }
-    ScanState {
-        align: s.align,
-        offset: s.offset,
-        stopped,
-    }
-}
-
-// The state behind a step; one that has stopped comes back as it was.
-fn scan_state_after(before: ScanState, after: Scan) -> ScanState
-    ensures { result ≡ scan_state_after before after }
-{
-    if before.stopped != 0 {
-        return before;
-    }
-    scan_state_of(after)
-}
-
-pub fn scan_step_by(before: ScanState, x: scan::ScanStepped) -> ScanStep
+// The same of one that has stopped: other types and another field, so that one function would be no plainer.
+pub fn scan_step_by(before: ScanState, x: ScanStepped) -> ScanStep
     ensures { result ≡ scan_step_by before x }
 {
-    let after = x.state;
-    let state = scan_state_after(before, after);
-    let answer = x.answer;
-    match answer {
-        Scanned::Found(sealed, offset) => {
-            let found = found_as(offset, sealed);
-            return ScanStep {
-                state,
-                refused: NONE,
-                is_found: 1,
-                found,
-            };
-        }
-        Scanned::Ended => {
-            return ScanStep {
-                state,
-                refused: NONE,
-                is_found: 0,
-                found: nothing(),
-            };
-        }
-        Scanned::Refused(refusal) => {
-            let refused = refused_by(refusal);
-            return ScanStep {
-                state,
-                refused,
-                is_found: 0,
-                found: nothing(),
-            };
-        }
+    let state = if before.stopped == 0 {
+        ScanState::from(x.state)
+    } else {
+        before
+    };
+    let (refused, is_found, found) = said(x.answer);
+    ScanStep {
+        state,
+        refused,
+        is_found,
+        found,
     }
 }
 
-pub fn finding_by(finding: Finding) -> FoundAt
-    ensures { result ≡ finding_by finding }
-{
-    match finding {
-        Finding::At(offset) => {
-            return FoundAt {
-                refused: NONE,
-                is_found: 1,
-                offset,
-            };
-        }
-        Finding::Nowhere => {
-            return FoundAt {
-                refused: NONE,
-                is_found: 0,
-                offset: 0,
-            };
-        }
-        Finding::Refused(refusal) => {
-            let refused = refused_by(refusal);
-            return FoundAt {
-                refused,
-                is_found: 0,
-                offset: 0,
-            };
+impl From<Result<Option<u32>, Refusal>> for FoundAt {
+    ghost from_gives = { λ finding given. given ≡ finding_by finding };
+
+    fn from(finding: Result<Option<u32>, Refusal>) -> FoundAt {
+        let (refused, found) = apart(finding, None);
+        FoundAt {
+            refused,
+            is_found: u8::from(found.is_some()),
+            offset: found.unwrap_or(0),
         }
     }
 }

@@ -7,27 +7,27 @@ use mathlib.Core.List.{List, [], ◌∷◌, ◌++◌, map}
 use Prim.Native.Nat.{ℕ}
 use lib.ListN.{take, drop, replicate}
 use Rattle.waymaker_core.specs.declared.«record».Record.{Record}
-use Rattle.waymaker_core.specs.Refusals.{Numbered}
+use Rattle.waymaker_core.specs.Refusals.{Numbered, decode_refusal_of, refusal_of}
 use Rattle.waymaker_core.specs.Kinds.{one_of, known, run_scoped, has_free, seq_fits, free_fits, widths, numbers_len, clock_known, clock_fits, plain_record}
 use Rattle.integrity.specs.Fcs.{bit_step, bit_steps, octet, octets, fcs, header_check, frame_check}
 use Rattle.storage.specs.declared.geometry.Geometry.{Geometry}
-use Rattle.storage.specs.Settings.{unit_up_to, program_unit, read_unit, region_length, allowed, settings, settings_refusal, round_up}
+use Rattle.storage.specs.Settings.{unit_up_to, program_unit, read_unit, region_length, allowed, settings, round_up}
 use Rattle.storage.specs.Media.{programmed_from, erased, ands, programmed, laid_over}
 use Rattle.frame.specs.Bytes.{bytes_le, value_le, field_bytes, fields}
-use Rattle.frame.specs.Lengths.{body_len, record_len, well_given, size_refusal, payload_fits, payload_len, with_unit, encoded_len_for, encoded_len}
+use Rattle.frame.specs.Lengths.{body_len, record_len, well_given, payload_fits, payload_len, with_unit, encoded_len_for, encoded_len}
 use Rattle.frame.specs.Format.{numbers_of, payload_of, checked_header, header_of, covered_of, check_of, frame_of, padding_of, seal_byte, seal_from, body_of, record_of, sealed_from, seal_holds}
 use Rattle.encode.specs.Encode.{overwritten, encoded_bytes, encoded}
-use Rattle.payload.specs.Payload.{length_fits, record_with, well_formed, body_refusal, body_at}
-use Rattle.decode.specs.Decode.{header_at, frame_len_of, frame_len_refusal, frame_under, decoding_refusal, decoded}
+use Rattle.payload.specs.Payload.{length_fits, record_with, well_formed, body_at}
+use Rattle.decode.specs.Decode.{header_at, frame_len_of, frame_under, decoded}
 use Rattle.place.specs.AtOffset.{stand_refusal, settled, judged, shape_of, stands}
 use Rattle.place.specs.Walk.{walk_over, walk}
 use Rattle.scan.specs.Scan.{step_refusal, scanned, step_of}
 use Rattle.look.specs.Reads.{capacity_of, laid, tail_reads, further, wanted, made, seen_by, paged, reads_at, reads_all}
-use Rattle.recovery.specs.Next.{answer_refusal, walk_from, page_after, before, step, fresh}
+use Rattle.recovery.specs.Next.{walk_from, page_after, before, step, fresh}
 use Rattle.finish.specs.Finish.{to_end, founds}
-use Rattle.find.specs.Find.{finding_refusal, carries, kept, latest, find_in}
-use Rattle.journal.specs.Opening.{opening_refusal, ready, opened}
-use Rattle.progress.specs.Phases.{progress_refusal, StepLeft, on_device, is_next, confirmed, under_way}
+use Rattle.find.specs.Find.{carries, kept, latest, find_in}
+use Rattle.journal.specs.Opening.{ready, opened}
+use Rattle.progress.specs.Phases.{StepLeft, on_device, is_next, confirmed, under_way}
 use Rattle.staging.specs.Stage.{as_staged, begins, staged}
 use Rattle.append.specs.Append.{barred, after_commit, committed}
 
@@ -58,19 +58,19 @@ blank n = replicate n 0xff
 
 -- the refusal of a recovery's first step, of a scan's from an offset, of an opening, of a search for sequence 7
 abbrev at_step : Geometry → List ℕ → ℕ → Numbered
-at_step g region page = answer_refusal (step (fresh g) region (replicate page 0)).out.answer
+at_step g region page = refusal_of (step (fresh g) region (replicate page 0)).out.answer
 
 abbrev at_scan : ℕ → ℕ → List ℕ → Numbered
 at_scan a o j = step_refusal (step_of (record { align = a; offset = o; stopped = false }) j)
 
 abbrev at_open : ℕ → ℕ → List ℕ → ℕ → Numbered
-at_open a r region page = opening_refusal (opened a r region (replicate page 0)).opening
+at_open a r region page = refusal_of (opened a r region (replicate page 0)).opening
 
 abbrev at_find : ℕ → ℕ → List ℕ → ℕ → Numbered
-at_find a r region page = finding_refusal (find_in 7 a r region (replicate page 0)).finding
+at_find a r region page = refusal_of (find_in 7 a r region (replicate page 0)).finding
 
 abbrev at_append : StepLeft → Numbered
-at_append x = progress_refusal x.out.progress
+at_append x = refusal_of x.out.progress
 
 -- stage the first record over a blank region of n bytes, with a = 4
 abbrev begun : ℕ → StepLeft
@@ -85,25 +85,25 @@ data Row : Type 0 where
 
 table : List Row
 table =
-    gives (settings_refusal (settings 16777216 256 4096)) 0 0 0
-    ∷ gives (settings_refusal (settings 16777217 256 4096)) 1 0 0
-    ∷ gives (size_refusal (encoded_len_for 256 65535)) 0 0 0
-    ∷ gives (size_refusal (encoded_len_for 3 0)) 1 0 0
-    ∷ gives (size_refusal (encoded_len_for 256 65536)) 5 0 0
-    ∷ gives (size_refusal (payload_len clockless 0)) 8 0 0
-    ∷ gives (size_refusal (payload_len fired 1)) 15 0 0
-    ∷ gives (size_refusal (encoded 4 fired [] (replicate 19 0)).answer) 5 0 0
-    ∷ gives (frame_len_refusal (frame_len_of whole)) 0 0 0
-    ∷ gives (frame_len_refusal (frame_len_of (take 11 whole))) 4 0 0
-    ∷ gives (frame_len_refusal (frame_len_of second)) 7 0 0
-    ∷ gives (frame_len_refusal (frame_len_of (replicate 12 0))) 9 0 0
-    ∷ gives (body_refusal (body_at 6 7 [])) 0 0 0
-    ∷ gives (body_refusal (body_at 6 7 (0 ∷ []))) 8 0 0
-    ∷ gives (decoding_refusal (decoded whole)) 0 0 0
-    ∷ gives (decoding_refusal (decoded (take 15 whole))) 4 0 0
-    ∷ gives (decoding_refusal (decoded second)) 7 0 0
-    ∷ gives (decoding_refusal (decoded (record_of 4 7 1 []))) 8 0 0
-    ∷ gives (decoding_refusal (decoded (take 12 whole ++ replicate 8 0))) 9 0 0
+    gives (refusal_of (settings 16777216 256 4096)) 0 0 0
+    ∷ gives (refusal_of (settings 16777217 256 4096)) 1 0 0
+    ∷ gives (refusal_of (encoded_len_for 256 65535)) 0 0 0
+    ∷ gives (refusal_of (encoded_len_for 3 0)) 1 0 0
+    ∷ gives (refusal_of (encoded_len_for 256 65536)) 5 0 0
+    ∷ gives (refusal_of (payload_len clockless 0)) 8 0 0
+    ∷ gives (refusal_of (payload_len fired 1)) 15 0 0
+    ∷ gives (refusal_of (encoded 4 fired [] (replicate 19 0)).answer) 5 0 0
+    ∷ gives (decode_refusal_of (frame_len_of whole)) 0 0 0
+    ∷ gives (decode_refusal_of (frame_len_of (take 11 whole))) 4 0 0
+    ∷ gives (decode_refusal_of (frame_len_of second)) 7 0 0
+    ∷ gives (decode_refusal_of (frame_len_of (replicate 12 0))) 9 0 0
+    ∷ gives (decode_refusal_of (body_at 6 7 [])) 0 0 0
+    ∷ gives (decode_refusal_of (body_at 6 7 (0 ∷ []))) 8 0 0
+    ∷ gives (decode_refusal_of (decoded whole)) 0 0 0
+    ∷ gives (decode_refusal_of (decoded (take 15 whole))) 4 0 0
+    ∷ gives (decode_refusal_of (decoded second)) 7 0 0
+    ∷ gives (decode_refusal_of (decoded (record_of 4 7 1 []))) 8 0 0
+    ∷ gives (decode_refusal_of (decoded (take 12 whole ++ replicate 8 0))) 9 0 0
     ∷ gives (stand_refusal (stands 4 whole)) 0 0 0
     ∷ gives (stand_refusal (stands 4 (loose 6))) 0 0 0
     ∷ gives (stand_refusal (stands 4 (blank 20))) 0 0 0

@@ -1,24 +1,23 @@
 -- Document 01's starred cases: a table of inputs, a table of results, and one computed test that the definitions
 -- give the one for the other. A refusal is given by its number and values, all 0 where there is none.
 -- Assumes nothing.
+use Rattle.std.specs.Prelude.{Ok, Err}
 use mathlib.Core.Path.{◌≡◌, refl}
 use mathlib.Core.List.{List, [], ◌∷◌, ◌++◌, map}
 use Prim.Native.Nat.{ℕ}
 use lib.ListN.{length, replicate}
-use Rattle.waymaker_core.specs.Refusals.{Numbered}
+use Rattle.waymaker_core.specs.Refusals.{Numbered, refusal_of}
 use Rattle.storage.specs.Settings.{unit_up_to, program_unit, read_unit, region_length, allowed, round_up}
 use Rattle.storage.specs.Media.{programmed_from, erased, laid_over}
-use Rattle.frame.specs.declared.lengths.Size.{Size}
-use Rattle.frame.specs.declared.lengths.Size.TheVariants.{Bytes, Refused}
+use Rattle.frame.specs.Lengths.{Size, body_len, record_len, payload_fits, with_unit, encoded_len_for}
 use Rattle.frame.specs.Format.{seal_byte, seal_from, seal_of}
-use Rattle.frame.specs.Lengths.{body_len, record_len, size_refusal, payload_fits, with_unit, encoded_len_for}
 use Rattle.place.specs.AtOffset.{shape_of, stands}
 use Rattle.place.specs.Walk.{walk_over, walk}
 use Rattle.recovery.specs.declared.next.Ending.{Ending}
 use Rattle.recovery.specs.declared.next.Ending.TheVariants.{Clean, Damaged}
 use Rattle.recovery.specs.declared.next.Stepped.{Stepped}
 use Rattle.look.specs.Reads.{capacity_of, laid, tail_reads, further, wanted, made, seen_by, paged, reads_at, reads_all}
-use Rattle.recovery.specs.Next.{answer_refusal, walk_from, page_after, before, step, fresh}
+use Rattle.recovery.specs.Next.{walk_from, page_after, before, step, fresh}
 
 pub data Case : Type 0 where
   -- the record length for a payload's length, with a program unit
@@ -40,14 +39,14 @@ pub data Result : Type 0 where
   ended : Ending → ℕ → List ℕ → Result
 
 abbrev pub length_in : Size → ℕ
-length_in (Bytes n) = n
-length_in (Refused e) = 0
+length_in (Ok n) = n
+length_in (Err e) = 0
 
 abbrev pub on_size : Size → Result
-on_size z = sized (length_in z) (told (size_refusal z))
+on_size z = sized (length_in z) (told (refusal_of z))
 
 abbrev pub on_step : Stepped → Result
-on_step x = ended x.state.ending x.state.offset (told (answer_refusal x.answer))
+on_step x = ended x.state.ending x.state.offset (told (refusal_of x.answer))
 
 -- the first step over a region of its own length
 abbrev pub first_step : List ℕ → Stepped

@@ -1,5 +1,6 @@
 -- One append: what its body, its seal and a cut in either leave of the region.
 -- Assumes nothing.
+use Rattle.std.specs.Prelude.{Ok, Err}
 use mathlib.Core.Path.{◌≡◌, refl, sym, ap, ap₂, ◌∙◌, subst, subst₂}
 use mathlib.Core.Bool.{true, false, not, ◌&&◌}
 use mathlib.Core.List.{List, [], ◌∷◌, ◌++◌, append_assoc}
@@ -20,10 +21,8 @@ use Rattle.frame.specs.Format.{numbers_of, checked_header, header_of, covered_of
 use Rattle.frame.proofs.Seal.{seal_byte_lt}
 use Rattle.seal.proofs.Seals.{seal_length, holds_is, erased_no_seal}
 use Rattle.encode.specs.Encode.{encoded_bytes}
-use Rattle.decode.specs.declared.Header.{Header}
-use Rattle.decode.specs.declared.Header.TheVariants.{Verified, Refused as NoHeader}
+use Rattle.decode.specs.Decode.{Header, header_at}
 use Rattle.decode.specs.declared.VerifiedHeader.{VerifiedHeader}
-use Rattle.decode.specs.Decode.{header_at}
 use Rattle.payload.specs.Payload.{part}
 use Rattle.payload.proofs.Known.{known_says}
 use Rattle.place.specs.declared.Stand.TheVariants.{Met}
@@ -42,17 +41,17 @@ use Rattle.claim.proofs.Looks.{looked_whole, calm_unsealed, calm_torn}
 use Rattle.claim.proofs.Passing.{Passes, Shape, Ready, passes_both, passes_found, ready_shape}
 
 said_len : Header → ℕ
-said_len (Verified v) = v.payload_len
-said_len (NoHeader e) = 0
+said_len (Ok v) = v.payload_len
+said_len (Err e) = 0
 
-no_header : {A : Type 0} (e : DecodeError) (v : VerifiedHeader) → NoHeader e ≡ Verified v → A
+no_header : {A : Type 0} (e : DecodeError) (v : VerifiedHeader) → Err e ≡ Ok v → A
 no_header e v f = let z : ◌≡◌ {A = ℕ} 0 1 = cc in absurd (omega arith)
 
 -- a header that is verified has the length that its bytes 8 and 9 say
-headed_size : (s : List ℕ) (v : VerifiedHeader) → header_at s ≡ Verified v → v.payload_len ≡ get_or s 8 0 + 256 * get_or s 9 0
+headed_size : (s : List ℕ) (v : VerifiedHeader) → header_at s ≡ Ok v → v.payload_len ≡ get_or s 8 0 + 256 * get_or s 9 0
 unfolding header_at value_le said_len
 headed_size s v =
-    let P : Header → Type 0 = λ d. d ≡ Verified v → v.payload_len ≡ get_or s 8 0 + 256 * get_or s 9 0 in
+    let P : Header → Type 0 = λ d. d ≡ Ok v → v.payload_len ≡ get_or s 8 0 + 256 * get_or s 9 0 in
     cond_case P (ltb (length s) 12) (λ _. no_header _ v)
     (λ _. cond_case P (not (eqb (get_or s 0 0) 0x57 && eqb (get_or s 1 0) 0x4d)) (λ _. no_header _ v)
     (λ _. cond_case P (not (eqb (header_check (take 10 s)) (value_at 2 s 10))) (λ _. no_header _ v)
@@ -198,7 +197,7 @@ module _ (a : ℕ) (h : 0 < a) (base r : List ℕ) (o : ℕ) (x : Given) (bs : L
           body_least a p h,
         )
 
-    no_less : (u : VerifiedHeader) → header_at (take 12 w) ≡ Verified u → d ≤ body_len a u.payload_len
+    no_less : (u : VerifiedHeader) → header_at (take 12 w) ≡ Ok u → d ≤ body_len a u.payload_len
     no_less u e =
         body_mono a p u.payload_len h
         (omega (

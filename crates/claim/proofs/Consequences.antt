@@ -1,6 +1,7 @@
 -- What follows from the claim of demand 3: with one page for a whole recovery, with the opening's definition, and for a
 -- committed record in what a caller reads.
 -- Assumes nothing beyond the claim, but for the first that the settings are within their limits and the region is bytes.
+use Rattle.std.specs.Prelude.{Ok}
 use mathlib.Core.Path.{◌≡◌, refl, sym, ap, subst, ◌∙◌}
 use mathlib.Core.Bool.{true}
 use mathlib.Core.List.{List, ◌∷◌, ◌++◌}
@@ -12,7 +13,6 @@ use Rattle.recovery.specs.Next.{fresh}
 use Rattle.finish.specs.Finish.{founds}
 use Rattle.roundtrip.specs.Typed.{AllBytes}
 use Rattle.journal.specs.declared.Journal.{Journal}
-use Rattle.journal.specs.declared.Opening.TheVariants.{Opened}
 use Rattle.journal.specs.Opening.{OpenLeft, opened}
 use Rattle.journal.proofs.Openings.{opens_by_lem}
 use Rattle.claim.specs.Saying.{Given, Said, given, all_given}
@@ -42,7 +42,7 @@ module _ (n a r : ℕ) (es : List Event) (claim : Claim n a r es) where
       (claim.finds_book (λ _. page) (λ _. large)).only _ (reads_exactly region bytes (units n a r) ok (λ _. page) (λ _. large) page large).has
 
   -- an opening, by its definition, stands before erased bytes
-  pub opened_stands : (page : List ℕ) (j : Journal) → (opened a r region page).opening ≡ Opened j → erased (drop j.offset region) ≡ true
+  pub opened_stands : (page : List ℕ) (j : Journal) → (opened a r region page).opening ≡ Ok j → erased (drop j.offset region) ≡ true
   opened_stands page j e =
       let l : OpenLeft = opened a r region page in
       claim.opens_erased page l.page j (opens_by_lem (ap (λ x. record { opening = x; page = l.page }) (sym e)))

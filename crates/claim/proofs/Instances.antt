@@ -1,5 +1,6 @@
 -- The instances hold: one computed test of the whole table, and laws that what is tested is so with every large page.
 -- Assumes nothing.
+use Rattle.std.specs.Prelude.{Ok, Err}
 use mathlib.Core.Path.{◌≡◌, refl, sym, ap, ap₂, ◌∙◌, subst}
 use mathlib.Core.Bool.{Bool, true, false, not, cond, ◌&&◌, false≢true, and-eq-true_iff}
 use mathlib.Core.Logic.{◌⊎◌, inl, inr, ⊎_elim}
@@ -16,10 +17,8 @@ use Rattle.waymaker_core.specs.Kinds.{one_of, known, run_scoped, has_free, seq_f
 use Rattle.storage.specs.Settings.{unit_up_to, program_unit, read_unit, region_length, allowed, round_up}
 use Rattle.storage.specs.Media.{programmed_from, erased, ands, programmed}
 use Rattle.integrity.specs.Fcs.{bit_step, bit_steps, octet, octets, fcs, header_check, frame_check}
-use Rattle.frame.specs.declared.lengths.Size.{Size}
-use Rattle.frame.specs.declared.lengths.Size.TheVariants.{Bytes as Long, Refused as NoLength}
+use Rattle.frame.specs.Lengths.{Size, body_len, record_len, well_given, payload_fits, payload_len}
 use Rattle.frame.specs.Bytes.{bytes_le, value_le, field_bytes, fields}
-use Rattle.frame.specs.Lengths.{body_len, record_len, well_given, payload_fits, payload_len}
 use Rattle.frame.specs.Format.{numbers_of, payload_of, checked_header, header_of, covered_of, check_of, frame_of, padding_of, seal_byte, seal_from, body_of, sealed_from, seal_holds}
 use Rattle.payload.specs.Payload.{length_fits, record_with, well_formed, body_at}
 use Rattle.decode.specs.Decode.{header_at, frame_under, decoded}
@@ -29,8 +28,7 @@ use Rattle.place.specs.Walk.{plain, Walk, walk_over, walk}
 use Rattle.finish.specs.Finish.{last_of}
 use Rattle.roundtrip.specs.Typed.{AllBytes, Typed}
 use Rattle.journal.specs.declared.Journal.{Journal}
-use Rattle.journal.specs.declared.Opening.{Opening}
-use Rattle.journal.specs.Opening.{opening_of}
+use Rattle.journal.specs.Opening.{Opening, opening_of}
 use Rattle.progress.specs.Phases.{unit_of, on_device, is_next, confirmed, under_way}
 use Rattle.staging.specs.Stage.{room_of, staged_with, as_staged, begins, staged}
 use Rattle.append.specs.Append.{barred, after_commit, committed}
@@ -223,8 +221,8 @@ module _ (m : Machine) (j : Journal) (x : Given) (p q : List ℕ) (hp : j.geomet
       (λ _. cond_same (stepped m) (not (eqb j.phase 0)) (λ _. refl) (λ _. go (payload_len x.«record» (length x.free)))))
     where
       go : (z : Size) → stepped m (staged_with j x.«record» x.free m.region p z) ≡ stepped m (staged_with j x.«record» x.free m.region q z)
-      go (NoLength e) = refl
-      go (Long n) =
+      go (Err e) = refl
+      go (Ok n) =
           cond_same (stepped m) (ltb (room_of j) (record_len (unit_of j) n)) (λ _. refl)
           (λ l.
           let k : record_len (unit_of j) n ≤ room_of j = ltb-false (room_of j) (record_len (unit_of j) n) l in

@@ -1,5 +1,6 @@
 -- What holds of machine and book after every list that demand 3 speaks of: every event keeps it.
 -- Nothing is assumed of the checks' values, nor of which bits a cut takes.
+use Rattle.std.specs.Prelude.{Ok, Err}
 use mathlib.Core.Path.{◌≡◌, refl, sym, ap, ◌∙◌, subst}
 use mathlib.Core.Bool.{Bool, true, false, not, false≢true}
 use mathlib.Core.List.{List, [], ◌∷◌, ◌++◌}
@@ -18,9 +19,7 @@ use Rattle.storage.specs.Media.{ands, programmed}
 use Rattle.storage.proofs.Units.{allowed_is, limits}
 use Rattle.storage.proofs.ErasedBytes.{erased_replicate}
 use Rattle.storage.proofs.Programming.{programmed_length}
-use Rattle.frame.specs.declared.lengths.Size.{Size}
-use Rattle.frame.specs.declared.lengths.Size.TheVariants.{Bytes as Long, Refused as NoLength}
-use Rattle.frame.specs.Lengths.{body_len, record_len, payload_len}
+use Rattle.frame.specs.Lengths.{Size, body_len, record_len, payload_len}
 use Rattle.frame.specs.Format.{seal_of, seal_holds}
 use Rattle.recovery.specs.Next.{fresh}
 use Rattle.look.proofs.Pages.{front_bytes, capacity_large}
@@ -34,9 +33,7 @@ use Rattle.roundtrip.proofs.Lists.{bytes_append}
 use Rattle.roundtrip.proofs.Frames.{payload_size}
 use Rattle.counts.specs.declared.WriteAmplification.{WriteAmplification}
 use Rattle.journal.specs.declared.Journal.{Journal}
-use Rattle.journal.specs.declared.Opening.{Opening}
-use Rattle.journal.specs.declared.Opening.TheVariants.{Opened, Refused as NotOpened}
-use Rattle.journal.specs.Opening.{opening_of, opened}
+use Rattle.journal.specs.Opening.{Opening, opening_of, opened}
 use Rattle.progress.specs.Phases.{unit_of, StepLeft, keeps as refusing, on_device, is_next, confirmed, under_way}
 use Rattle.staging.specs.Stage.{check_for, body_for, staged_with, begins, staged}
 use Rattle.append.specs.Append.{barred, after_commit, committed}
@@ -188,7 +185,7 @@ module _ (n a r : ℕ) (ok : allowed n a r ≡ true) where
     i₀ = ready_inv s o w bs x v
 
     -- a record that stage takes
-    began : (y : Given) (p : ℕ) → Typed y.«record» y.free → payload_len y.«record» (length y.free) ≡ Long p → ltb (n - o) (record_len a p) ≡ false
+    began : (y : Given) (p : ℕ) → Typed y.«record» y.free → payload_len y.«record» (length y.free) ≡ Ok p → ltb (n - o) (record_len a p) ≡ false
         → Busy a s (programmed s o (body_for a y.«record» y.free)) o y bs
     began y p t e l =
         let q : length (payload_for y) ≡ p = payload_size y.«record» y.free p t e in
@@ -207,8 +204,8 @@ module _ (n a r : ℕ) (ok : allowed n a r ≡ true) where
       P l = Keeps s₀ (stage y page) (stepped m₀ l)
 
       go : (z : Size) → payload_len y.«record» (length y.free) ≡ z → P (staged_with (idle o w) y.«record» y.free s page z)
-      go (NoLength e) f = no_stage s₀ i₀ _ y page
-      go (Long p) f =
+      go (Err e) f = no_stage s₀ i₀ _ y page
+      go (Ok p) f =
           cond_case P (ltb (n - o) (record_len a p)) (λ _. no_stage s₀ i₀ _ y page)
           (λ l. cond_case P (ltb (length page) (record_len a p)) (λ _. no_stage s₀ i₀ _ y page)
           (λ _.
@@ -325,8 +322,8 @@ module _ (n a r : ℕ) (ok : allowed n a r ≡ true) where
   opening_torn : (s : State) (page u : List ℕ) → Inv s → TornIn a r s.machine (opening page) u → Inv (cut_off s false u)
   opening_torn s page u i c = cut_inv s i u (subst (λ t. Cut s.machine.base t u) (same (opened a r s.machine.region page).opening) c) where
     same : (y : Opening) → (after_opening s.machine y).left.region ≡ s.machine.region
-    same (Opened j) = refl
-    same (NotOpened e) = refl
+    same (Ok j) = refl
+    same (Err e) = refl
 
   -- a step keeps it where there is a journal
   stage_inv : (s : State) (q : Given) (page : List ℕ) → Inv s → MayBeMade s.book (stage q page) → Keeps s (stage q page) (done a r s.machine (stage q page))

@@ -1,6 +1,7 @@
 -- What stands at the start of a tail: a record by its own bytes alone, with its seal or without it, and a torn body.
 -- a is the program unit.
 -- Assumes nothing.
+use Rattle.std.specs.Prelude.{Ok}
 use mathlib.Core.Path.{◌≡◌, refl, sym, ap, ap₂, ◌∙◌}
 use mathlib.Core.Bool.{Bool, true, false, not, ◌&&◌, and-eq-true_iff}
 use mathlib.Core.List.{List, [], ◌∷◌, ◌++◌, append_assoc}
@@ -24,10 +25,8 @@ use Rattle.waymaker_core.specs.declared.«record».RecordRef.{RecordRef}
 use Rattle.payload.specs.declared.Decoded.TheVariants.{Record as Known}
 use Rattle.payload.specs.Payload.{part, record_with}
 use Rattle.decode.specs.declared.VerifiedHeader.{VerifiedHeader}
-use Rattle.decode.specs.declared.Header.{Header}
-use Rattle.decode.specs.declared.Header.TheVariants.{Verified}
+use Rattle.decode.specs.Decode.{Header, header_at, decoded}
 use Rattle.decode.specs.declared.Frame.{Frame as FrameOf}
-use Rattle.decode.specs.Decode.{header_at, decoded}
 use Rattle.roundtrip.specs.ReadBack.{frame_given}
 use Rattle.roundtrip.proofs.Frames.{header_of_frame, payload_size, payload_small}
 use Rattle.roundtrip.proofs.Fronts.{header_front}
@@ -61,10 +60,10 @@ programmed_first : (s : List ℕ) → 0 < length s → get_or s 0 0 ≡ 0x57 →
 programmed_first [] h e = absurd (omega arith)
 programmed_first (x ∷ xs) h e = erased_cons x xs ∙ ap (λ b. b && erased xs) (ne_eqb x 255 (λ f. omega arith))
 
-programmed_header : (s : List ℕ) (v : VerifiedHeader) → header_at s ≡ Verified v → erased s ≡ false
+programmed_header : (s : List ℕ) (v : VerifiedHeader) → header_at s ≡ Ok v → erased s ≡ false
 unfolding header_at
 programmed_header s v =
-    let P : Header → Type 0 = λ x. x ≡ Verified v → erased s ≡ false in
+    let P : Header → Type 0 = λ x. x ≡ Ok v → erased s ≡ false in
     cond_case P (ltb (length s) 12) (λ _ e. let z : ◌≡◌ {A = ℕ} 0 1 = cc in absurd (omega arith))
     (λ l. cond_case P (not (eqb (get_or s 0 0) 0x57 && eqb (get_or s 1 0) 0x4d)) (λ _ e. let z : ◌≡◌ {A = ℕ} 0 1 = cc in absurd (omega arith))
     (λ m _.
@@ -107,7 +106,7 @@ module _ (a : ℕ) where
 
   -- A torn body, erased from a place on that is not behind the end of the body its header gives, is never found, and is clean or skipped before erased bytes only.
   pub calm_torn : 0 < a → (w : List ℕ) (d : ℕ) → erased (drop d w) ≡ true
-      → ((v : VerifiedHeader) → header_at (take 12 w) ≡ Verified v → d ≤ body_len a v.payload_len) → Calm w (stands a w)
+      → ((v : VerifiedHeader) → header_at (take 12 w) ≡ Ok v → d ≤ body_len a v.payload_len) → Calm w (stands a w)
   calm_torn h w d e far =
       stands_case a (Calm w) w (λ x. calm_end w x (erased w) refl) (λ x. tt)
       (λ v i l.
@@ -129,13 +128,13 @@ module _ (a : ℕ) where
     record_least p = omega (arith, up_least (frame_len p) a h)
 
     -- a record's own bytes decide, whatever follows
-    stands_whole : (v : VerifiedHeader) (s rest : List ℕ) → length s ≡ record_len a v.payload_len → header_at s ≡ Verified v → stands a (s ++ rest) ≡ judged a s
+    stands_whole : (v : VerifiedHeader) (s rest : List ℕ) → length s ≡ record_len a v.payload_len → header_at s ≡ Ok v → stands a (s ++ rest) ≡ judged a s
     unfolding stands shape_of
     stands_whole v s rest l e =
         let m : ℕ = record_len a v.payload_len in
         let long : 12 ≤ length s = omega (arith, record_least v.payload_len) in
         let both : length (s ++ rest) ≡ length s + length rest = length-append s rest in
-        let head : header_at (take 12 s) ≡ Verified v = header_first s long ∙ e in
+        let head : header_at (take 12 s) ≡ Ok v = header_first s long ∙ e in
         rw (
           le-ltb (length (s ++ rest)) 12 (omega arith),
           take-append-le 12 s rest long,
@@ -156,7 +155,7 @@ module _ (a : ℕ) where
         let long : 12 ≤ m = omega (arith, record_least v.payload_len) in
         let size : length (take m t) ≡ m = length-take-le m t l in
         let all : m ≡ n = sym size ∙ skips_all (take m t) n e in
-        let head : header_at (take m t) ≡ Verified v = sym (header_first (take m t) (omega arith)) ∙ ap header_at (take-take 12 m t long) ∙ i in
+        let head : header_at (take m t) ≡ Ok v = sym (header_first (take m t) (omega arith)) ∙ ap header_at (take-take 12 m t long) ∙ i in
         ap (λ k. stands a (take k t ++ rest)) (sym all) ∙ stands_whole v (take m t) rest size head ∙ e)
 
     -- The bytes that are skipped lie in the tail.

@@ -1,5 +1,6 @@
 -- The payload of a record that a step finds is a part of the caller's page, the same bytes as in the region.
 -- Assumes nothing.
+use Rattle.std.specs.Prelude.{Ok, Err, Some, None}
 use mathlib.Core.Path.{◌≡◌, refl, sym, ap, subst, ◌∙◌}
 use mathlib.Core.Bool.{Bool, true, false, cond, not}
 use mathlib.Core.List.{List, [], ◌∷◌}
@@ -16,30 +17,23 @@ use Rattle.storage.specs.Media.{erased, laid_over, read_at}
 use Rattle.storage.proofs.Reading.{laid_length}
 use Rattle.frame.specs.Bytes.{value_at}
 use Rattle.frame.specs.Lengths.{frame_len, record_len}
-use Rattle.payload.specs.declared.Body.{Body}
-use Rattle.payload.specs.declared.Body.TheVariants.{Decoded as Says, Malformed}
-use Rattle.payload.specs.Payload.{body_at}
+use Rattle.payload.specs.Payload.{Body, body_at}
 use Rattle.decode.specs.declared.VerifiedHeader.{VerifiedHeader}
-use Rattle.decode.specs.declared.Header.{Header}
-use Rattle.decode.specs.declared.Header.TheVariants.{Verified, Refused as NoHeader}
+use Rattle.decode.specs.Decode.{Header, Decoding, header_at, framed, frame_under, on_header, decoded}
 use Rattle.decode.specs.declared.Frame.{Frame as FrameOf}
-use Rattle.decode.specs.declared.Decoding.{Decoding}
-use Rattle.decode.specs.Decode.{header_at, framed, frame_under, on_header, decoded}
 use Rattle.place.specs.declared.Stop.{Stop}
 use Rattle.place.specs.declared.Stop.TheVariants.{End, Bad, NoSeal, TooSmall}
 use Rattle.place.specs.declared.Stand.{Stand}
 use Rattle.place.specs.declared.Stand.TheVariants.{Met, Passed, Over}
-use Rattle.place.specs.AtOffset.{settled, judged_by, judged, Shape, Short, Blank, BadHeader, Overlong, Whole, headed, shape_of, stand_by, stands}
+use Rattle.place.specs.AtOffset.{settled, judged_by, judged, Shape, Short, Blank, BadHeader, Overlong, Whole, headed, shape_of, stand_by, stands, end_answer}
 use Rattle.place.specs.Walk.{Walk, walk, Step, meets, stops, first_step, step_offsets}
 use Rattle.place.proofs.Cases.{settled_case}
 use Rattle.place.proofs.Walks.{each_walk}
 use Rattle.recovery.specs.declared.next.Recovery.{Recovery}
 use Rattle.recovery.specs.declared.next.Found.{Found as OneFound}
-use Rattle.recovery.specs.declared.next.Answer.{Answer}
-use Rattle.recovery.specs.declared.next.Answer.TheVariants.{Found, Ended, Refused}
+use Rattle.recovery.specs.Next.{Answer, arrived, walk_from, page_after, with_page, step_in, step, NextStep, part_at}
 use Rattle.recovery.specs.declared.next.Stepped.{Stepped}
 use Rattle.look.specs.Reads.{capacity_of, Read, laid, further, header_size, wanted, made, seen_by, paged, reads_at, reads_all}
-use Rattle.recovery.specs.Next.{last_answer, arrived, walk_from, page_after, with_page, step_in, step, NextStep, part_at}
 use Rattle.look.proofs.Fronts.{capped, front_read}
 use Rattle.look.proofs.Near.{paged_steady, laid_long, laid_append}
 use Rattle.finish.proofs.Steps.{not_found, Before, looks, says, unless, view, IsBefore, is_before, step_view}
@@ -80,26 +74,26 @@ inner_under a s v =
     (λ _. go (body_at v.kind.0 v.seq.0 (take p (drop 12 s))) (value_at 4 s (12 + p)) (ltb-false (length s) (frame_len p) e)))
   where
     go : (b : Body) (c : ℕ) → frame_len v.payload_len ≤ length s → Inner (length s) (judged_by a s (framed b v.payload_len c))
-    go (Says d) c h = inner_settled a _ s (omega arith)
-    go Malformed c h = tt
+    go (Ok d) c h = inner_settled a _ s (omega arith)
+    go (Err x) c h = tt
 
 inner_judged : (a : ℕ) (s : List ℕ) → Inner (length s) (judged a s)
 unfolding judged decoded
 inner_judged a s = go (header_at s) where
   go : (d : Header) → Inner (length s) (judged_by a s (on_header d s))
-  go (Verified v) = inner_under a s v
-  go (NoHeader e) = tt
+  go (Ok v) = inner_under a s v
+  go (Err e) = tt
 
 -- a record that is answered has its payload in the page
 abbrev Paged : List ℕ → List ℕ → Answer → Type 0
-Paged region page (Found f) = part_at page f.«record».payload.place f.«record».payload.len ≡ (said_in region f).payload
-Paged region page Ended = Unit {0}
-Paged region page (Refused e) = Unit {0}
+Paged region page (Ok (Some f)) = part_at page f.«record».payload.place f.«record».payload.len ≡ (said_in region f).payload
+Paged region page (Ok None) = Unit {0}
+Paged region page (Err e) = Unit {0}
 
 module _ (region : List ℕ) where
   -- the same of what an offset comes to, and of a step
   abbrev Holds : ℕ → List ℕ → Stand → Type 0
-  Holds o page (Met x) = Paged region page (Found (record { offset = o; «record» = x }))
+  Holds o page (Met x) = Paged region page (Ok (Some (record { offset = o; «record» = x })))
   Holds o page (Passed n) = Unit {0}
   Holds o page (Over e) = Unit {0}
 
@@ -181,8 +175,8 @@ module _ (region : List ℕ) where
           (λ _. go (header_at (take 12 tail)) (ltb-false (length tail) 12 l)))
         where
           go : (d : Header) → 12 ≤ length tail → Shown (headed a (length tail) d)
-          go (NoHeader e) l = shown_over (BadHeader e) _ refl
-          go (Verified v) l =
+          go (Err e) l = shown_over (BadHeader e) _ refl
+          go (Ok v) l =
               let n : ℕ = record_len a v.payload_len in
               cond_case Shown (ltb (length tail) n) (λ _. shown_over Overlong _ refl) (λ e. shown_whole n l (ltb-false (length tail) n e))
 
@@ -205,16 +199,16 @@ module _ (s : Recovery) (region page : List ℕ) where
   paged_arrived : (z : Step) (q : List ℕ) → HoldsStep region q z → Paged region q (arrived s z).answer
   paged_arrived (meets o x) q k = k
   paged_arrived (stops o e) q k = go e where
-    go : (d : Stop) → Paged region q (last_answer d)
+    go : (d : Stop) → Paged region q (end_answer d)
     go End = tt
     go (Bad x) = tt
     go NoSeal = tt
     go (TooSmall n) = tt
 
   paged_says : (z : Answer) → not_found z → Paged region page z
-  paged_says (Found f) k = absurd k
-  paged_says Ended k = tt
-  paged_says (Refused e) k = tt
+  paged_says (Ok (Some f)) k = absurd k
+  paged_says (Ok None) k = tt
+  paged_says (Err e) k = tt
 
   paged_step : Paged region (step s region page).page (step s region page).out.answer
   unfolding walk_from page_after
@@ -229,7 +223,7 @@ module _ (s : Recovery) (region page : List ℕ) where
         (holds_walk region g.program_size g.read_size (capacity_of (length page) g.read_size) (limits g.bytes g.program_size g.read_size k.units).program_least s.offset page (omega (arith, c.all, c.most)))
 
 -- The payload of a record that a step finds is that part of the page which its place and length give, with the bytes that stand in the region.
-pub payload_paged : (s : Recovery) (region page : List ℕ) (out : Stepped) (page' : List ℕ) → NextStep s region page out page' → (f : OneFound) → out.answer ≡ Found f
+pub payload_paged : (s : Recovery) (region page : List ℕ) (out : Stepped) (page' : List ℕ) → NextStep s region page out page' → (f : OneFound) → out.answer ≡ Ok (Some f)
     → part_at page' f.«record».payload.place f.«record».payload.len ≡ (said_in region f).payload
 payload_paged s region page out page' k f e =
     let g : Paged region page' out.answer = rw (← k.all) at (paged_step s region page) in

@@ -1,5 +1,6 @@
 -- What a caller reads step by step, with a page of its own lent to each step, is what a run with one page finds.
 -- Assumes nothing.
+use Rattle.std.specs.Prelude.{Ok, Err, Some, None}
 use mathlib.Core.Path.{◌≡◌, refl, sym, ap, ◌∙◌, subst}
 use mathlib.Core.Bool.{true, not}
 use mathlib.Core.List.{List, [], ◌∷◌}
@@ -18,10 +19,8 @@ use Rattle.place.specs.Walk.{plain, walk, Step, meets, stops, first_step}
 use Rattle.recovery.specs.declared.next.Stepped.{Stepped}
 use Rattle.recovery.specs.declared.next.Recovery.{Recovery}
 use Rattle.recovery.specs.declared.next.Found.{Found as OneFound}
-use Rattle.recovery.specs.declared.next.Answer.{Answer}
-use Rattle.recovery.specs.declared.next.Answer.TheVariants.{Found, Ended, Refused}
+use Rattle.recovery.specs.Next.{Answer, arrived, walk_from, page_after, is_open, before, Done, with_page, step_in, step, NextStep, fresh}
 use Rattle.look.specs.Reads.{capacity_of, paged}
-use Rattle.recovery.specs.Next.{arrived, walk_from, page_after, is_open, before, Done, with_page, step_in, step, NextStep, fresh}
 use Rattle.recovery.proofs.Runs.{next_step}
 use Rattle.look.proofs.Pages.{capacity_large}
 use Rattle.look.proofs.Near.{laid_long}
@@ -61,13 +60,13 @@ module _ (region : List ℕ) (s : Recovery) (p : List ℕ) (x y : Stepped) (q t 
   same_done = k.all ∙ sym l.all
 
   -- so a step does not both find a record and find none
-  one_answer : {A : Type 0} {f : OneFound} {z : Answer} → x.answer ≡ Found f → y.answer ≡ z → (Found f ≡ z → A) → A
+  one_answer : {A : Type 0} {f : OneFound} {z : Answer} → x.answer ≡ Ok (Some f) → y.answer ≡ z → (Ok (Some f) ≡ z → A) → A
   one_answer e d h = h (sym e ∙ ap (λ (w : Done). w.out.answer) same_done ∙ d)
 
-found_ended : {A : Type 0} {f : OneFound} → Found f ≡ Ended → A
+found_ended : {A : Type 0} {f : OneFound} → ◌≡◌ {A = Answer} (Ok (Some f)) (Ok None) → A
 found_ended e = let z : ◌≡◌ {A = ℕ} 0 1 = cc in absurd (omega arith)
 
-found_refused : {A : Type 0} {f : OneFound} {u : Refusal} → Found f ≡ Refused u → A
+found_refused : {A : Type 0} {f : OneFound} {u : Refusal} → ◌≡◌ {A = Answer} (Ok (Some f)) (Err u) → A
 found_refused e = let z : ◌≡◌ {A = ℕ} 0 1 = cc in absurd (omega arith)
 
 -- the same record, with the same payload, and the same behind it
@@ -79,7 +78,7 @@ same_said f h v w us vs a b c = rw (a, b, c)
 reads_one : (region : List ℕ) (s : Recovery) (pages : ℕ → List ℕ) (xs ys : List Said) → Reads region s pages xs → Reads region s pages ys → xs ≡ ys
 reads_one region _ _ _ _ (reads_found s pages x q f v us k i e t) (reads_found _ _ y q₂ h w vs l j d u) =
     let both = same_done region s (pages 0) x y q q₂ k l in
-    let found : Found f ≡ Found h = sym i ∙ ap (λ (z : Done). z.out.answer) both ∙ j in
+    let found : Ok (Some f) ≡ Ok (Some h) = sym i ∙ ap (λ (z : Done). z.out.answer) both ∙ j in
     let page : q ≡ q₂ = ap (λ (z : Done). z.page) both in
     let fh : f ≡ h = cc in
     same_said f h v w us vs fh (cc)
@@ -144,15 +143,15 @@ module _ (region : List ℕ) (b : AllBytes region) (g : Geometry) (ok : allowed 
       none t u = subst (λ fs. Reads region s pages (all_said_in region fs)) (sym t.shown) u
 
       go : (z : Answer) → (step s region (pages 0)).out.answer ≡ z → After s region page z (step s region page)
-          → ((f : OneFound) → (step s region (pages 0)).out.answer ≡ Found f
+          → ((f : OneFound) → (step s region (pages 0)).out.answer ≡ Ok (Some f)
           → Reads region (step s region (pages 0)).out.state (later pages) (all_said_in region (founds (step s region page).out.state region (step s region page).page)))
           → Reads region s pages (all_said_in region (founds s region page))
-      go (Found f) i t rest =
+      go (Ok (Some f)) i t rest =
           let x : Done = step s region (pages 0) in
           subst (λ fs. Reads region s pages (all_said_in region fs)) (sym t.shown)
           (reads_found s pages x.out x.page f _ _ (next_step refl) i (sym (payload_paged s region (pages 0) x.out x.page (next_step refl) f i)) (rest f i))
-      go Ended i t rest = none t (reads_end s pages (step s region (pages 0)).out (step s region (pages 0)).page (next_step refl) i)
-      go (Refused u) i t rest = none t (reads_refusal s pages (step s region (pages 0)).out (step s region (pages 0)).page u (next_step refl) i)
+      go (Ok None) i t rest = none t (reads_end s pages (step s region (pages 0)).out (step s region (pages 0)).page (next_step refl) i)
+      go (Err u) i t rest = none t (reads_refusal s pages (step s region (pages 0)).out (step s region (pages 0)).page u (next_step refl) i)
 
   -- with large pages, whatever they hold, a caller from offset 0 reads exactly what a run with one page finds
   pub reads_exactly : (pages : ℕ → List ℕ) → ((i : ℕ) → Large (pages i)) → (page : List ℕ) → Large page

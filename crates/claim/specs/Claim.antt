@@ -1,16 +1,14 @@
 -- Demand 3: the claim, a clause for each thing that the demand claims.
 -- A region of n bytes, program unit a, read unit r; es is the list: calls, refused ones too, and cuts.
-use Rattle.std.specs.Prelude.{◌≡◌, true, List, ◌∷◌, ◌++◌, ℕ, drop}
+use Rattle.std.specs.Prelude.{◌≡◌, true, List, ◌∷◌, ◌++◌, ℕ, drop, Ok}
 use Rattle.storage.specs.declared.geometry.Geometry.{Geometry}
 use Rattle.storage.specs.Settings.{allowed}
 use Rattle.storage.specs.Media.{erased}
 use Rattle.recovery.specs.Next.{fresh}
 use Rattle.journal.specs.declared.Journal.{Journal}
-use Rattle.journal.specs.declared.Opening.TheVariants.{Opened}
 use Rattle.journal.specs.Opening.{Opens}
 use Rattle.claim.specs.Saying.{Given, all_given}
-use Rattle.claim.specs.Events.{Event, call, commit, unrefused, done, under, State, run, verdicts}
-use Rattle.claim.specs.Events.{Large, Valid, start}
+use Rattle.claim.specs.Events.{Event, call, commit, unrefused, done, under, State, run, verdicts, Large, Valid, start}
 use Rattle.claim.specs.Promised.{Plays, Reads}
 
 -- x has the property P, and nothing else has
@@ -48,7 +46,7 @@ module _ (n a r : ℕ) where
         → Kept (after fs) (after es).book.records
     -- an opening that succeeds after the list: nothing is programmed from its journal's offset on, the append offset
     pub opens_erased : (page page' : List ℕ) (j : Journal)
-        → Opens a r (after es).machine.region page (Opened j) page'
+        → Opens a r (after es).machine.region page (Ok j) page'
         → erased (drop j.offset (after es).machine.region) ≡ true
 
 -- the theorem, proved in `proofs/Demand3.antt`: within the limits of the settings, the claim holds of every list meant

@@ -7,22 +7,27 @@ mod records;
 
 use encode::encode;
 use records::{fired, gate, outcome, scheduled, started, timer};
-use std::io::{Result, Write};
+use std::io::{self, Write};
 use std::process::ExitCode;
-use stdio::{Input, read_all};
-use text::{LINE_FEED, Number, find_byte, number_of};
-use waymaker_core::record::Record;
+use stdio::{Failure, exit_code, read_all};
+use text::{LINE_FEED, Output, number_of, split_once};
+use waymaker_core::record::{Record, RecordKind};
 
 // A record at a place of the region, in program units of 4 bytes.
 fn put(region: &mut [u8], at: usize, record: Record, free: &[u8]) {
-    if at <= region.len() {
-        encode(record, free, 4, &mut region[at..]);
+    if let Some(rest) = region.get_mut(at..) {
+        // What does not fit is left out: an image that came out wrong shows in its listing.
+        let _ = encode(record, free, 4, rest);
     }
 }
 
 // Leaves the four bytes of a slot as they were before its commit.
 fn unseal(region: &mut [u8], slot: usize) {
-    text::put(region, slot, b"\xff\xff\xff\xff");
+    let mut seal = Output {
+        bytes: region,
+        place: slot,
+    };
+    seal.put(b"\xff\xff\xff\xff");
 }
 
 // A run started, and the first effect scheduled.
@@ -47,73 +52,65 @@ fn wait(region: &mut [u8]) {
 // The end of a run.
 fn end(region: &mut [u8]) {
     put(region, 164, gate(3, 7), b"");
-    put(region, 188, outcome(4, 4), b"no light");
-    put(region, 216, outcome(7, 0), b"done");
+    put(
+        region,
+        188,
+        outcome(RecordKind::EFFECT_FAILED, 4),
+        b"no light",
+    );
+    put(region, 216, outcome(RecordKind::RUN_COMPLETED, 0), b"done");
 }
 
 // An update that ran to its end.
-fn update(region: &mut [u8]) {
-    begin(region);
-    put(region, 60, outcome(3, 1), b"ok");
-    wait(region);
-    end(region);
+fn update() -> [u8; 320] {
+    let mut region = [255u8; 320];
+    begin(&mut region);
+    put(
+        &mut region,
+        60,
+        outcome(RecordKind::EFFECT_COMPLETED, 1),
+        b"ok",
+    );
+    wait(&mut region);
+    end(&mut region);
+    region
 }
 
 // An update whose second effect was cut before its commit: nothing may be read past it.
-fn cut(region: &mut [u8]) {
-    begin(region);
-    put(region, 60, scheduled(2, 2, 9), b"");
-    unseal(region, 84);
+fn cut() -> [u8; 128] {
+    let mut region = [255u8; 128];
+    begin(&mut region);
+    put(&mut region, 60, scheduled(2, 2, 9), b"");
+    unseal(&mut region, 84);
+    region
 }
 
-fn show<W: Write>(out: &mut W, region: &[u8]) -> Result<()> {
+// Writes the image of a region.
+fn show(rt: &HostRuntime, region: &[u8]) -> io::Result<()> {
+    let mut out = rt.stdout();
     out.write_all(b"4,1\n")?;
     out.write_all(region)
 }
 
-fn first<W: Write>(out: &mut W) -> Result<()> {
-    let mut region = [255u8; 320];
-    update(&mut region);
-    show(out, &region)
+// The number on the first line.
+fn chosen(s: &[u8]) -> Option<u64> {
+    number_of(split_once(s, LINE_FEED).map_or(s, |(line, _)| line))
 }
 
-fn second<W: Write>(out: &mut W) -> Result<()> {
-    let mut region = [255u8; 128];
-    cut(&mut region);
-    show(out, &region)
-}
-
-// The number on the first line, 0 where there is none.
-fn chosen(s: &[u8]) -> u64 {
-    let end = find_byte(s, LINE_FEED);
-    let number = number_of(&s[..end]);
-    match number {
-        Number::Value(n) => return n,
-        Number::Bad => return 0,
-    }
-}
-
-// Says why there is no image. Where that cannot be written either, the status alone says it.
-fn failed(rt: &impl Eprint, why: &str) -> ExitCode {
-    let _ = rt.eprintln(why);
-    ExitCode::FAILURE
+fn make_image(rt: &HostRuntime) -> Result<(), Failure> {
+    let mut line = [0u8; 16];
+    let n = read_all(&mut rt.stdin(), &mut line).map_err(|_| Failure::Input)?;
+    let written = match chosen(&line[..n]) {
+        Some(1) => show(rt, &update()),
+        Some(2) => show(rt, &cut()),
+        _ => {
+            let _ = rt.eprintln("images: standard input says which image, 1 or 2");
+            return Ok(());
+        }
+    };
+    written.map_err(|_| Failure::Output)
 }
 
 fn main(rt: HostRuntime) -> ExitCode {
-    let mut line = [0u8; 16];
-    let Input::Bytes(n) = read_all(&mut rt.stdin(), &mut line) else {
-        return failed(&rt, "images: standard input cannot be read");
-    };
-    let written = match chosen(&line[..n]) {
-        1 => first(&mut rt.stdout()),
-        2 => second(&mut rt.stdout()),
-        _ => {
-            let _ = rt.eprintln("images: standard input says which image, 1 or 2");
-            return ExitCode::SUCCESS;
-        }
-    };
-    match written {
-        Ok(()) => ExitCode::SUCCESS,
-        Err(_) => failed(&rt, "images: standard output cannot be written"),
-    }
+    exit_code(&rt, "images", make_image(&rt))
 }

@@ -6,31 +6,32 @@ use waymaker_core::timer::ClockKind;
 use waymaker_core::version::GateId;
 
 pub(crate) fn started(kind: u16, version: u16) -> Record {
-    let mut record = Record::new(RecordKind::RUN_STARTED, EffectSeq::FIRST);
-    record.workflow_kind = kind;
-    record.workflow_version = version;
-    record
+    Record {
+        workflow_kind: kind,
+        workflow_version: version,
+        ..Record::new(RecordKind::RUN_STARTED, EffectSeq::FIRST)
+    }
 }
 
 pub(crate) fn scheduled(seq: u32, activity: u16, input_len: u16) -> Record {
-    let mut record = Record::new(RecordKind::EFFECT_SCHEDULED, EffectSeq(seq));
-    let kind = ActivityKind(activity);
-    record.activity = kind;
-    record.input_len = input_len;
-    record
+    Record {
+        activity: ActivityKind(activity),
+        input_len,
+        ..Record::new(RecordKind::EFFECT_SCHEDULED, EffectSeq(seq))
+    }
 }
 
 // A record of nothing but free bytes: an effect's or the run's outcome.
-pub(crate) fn outcome(kind: u8, seq: u32) -> Record {
-    Record::new(RecordKind(kind), EffectSeq(seq))
+pub(crate) fn outcome(kind: RecordKind, seq: u32) -> Record {
+    Record::new(kind, EffectSeq(seq))
 }
 
 pub(crate) fn timer(seq: u32, deadline: u64) -> Record {
-    let mut record = Record::new(RecordKind::TIMER_SCHEDULED, EffectSeq(seq));
-    let clock = ClockKind(1);
-    record.clock_kind = clock;
-    record.deadline = deadline;
-    record
+    Record {
+        clock_kind: ClockKind::AFTER_BOOT,
+        deadline,
+        ..Record::new(RecordKind::TIMER_SCHEDULED, EffectSeq(seq))
+    }
 }
 
 pub(crate) fn fired(seq: u32) -> Record {
@@ -38,9 +39,9 @@ pub(crate) fn fired(seq: u32) -> Record {
 }
 
 pub(crate) fn gate(seq: u32, gate: u16) -> Record {
-    let mut record = Record::new(RecordKind::VERSION_MARKER, EffectSeq(seq));
-    let id = GateId(gate);
-    record.gate = id;
-    record.version = 1;
-    record
+    Record {
+        gate: GateId(gate),
+        version: 1,
+        ..Record::new(RecordKind::VERSION_MARKER, EffectSeq(seq))
+    }
 }

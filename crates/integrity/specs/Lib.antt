@@ -1,3 +1,2 @@
 -- The definition of the two checks.
 pub mod Fcs
-pub mod Inside

@@ -1,2 +1,1 @@
 -- The laws of a listing's lines.
-pub mod Pieces

@@ -1,13 +1,13 @@
 -- The lines of a listing, in ASCII; 44 is a comma, 10 a line feed.
 use Rattle.std.specs.Prelude.{List, [], ◌∷◌, ◌++◌, ℕ}
 use Prim.Native.String.{String}
+use Rattle.waymaker_core.specs.Refusals.{refusal_of}
 use Rattle.waymaker_core.specs.Kinds.{kind_of, seq_of}
 use Rattle.text.specs.Text.{codes, decimal}
 use Rattle.recovery.specs.declared.next.Ending.{Ending}
 use Rattle.recovery.specs.declared.next.Ending.TheVariants.{Open, Clean, Damaged, Incomplete, Unsealed}
 use Rattle.recovery.specs.declared.next.Found.{Found as OneFound}
 use Rattle.recovery.specs.declared.next.Stepped.{Stepped}
-use Rattle.recovery.specs.Next.{answer_refusal}
 
 -- a number and the byte behind it
 abbrev pub field : ℕ → ℕ → List ℕ
@@ -30,7 +30,7 @@ unfoldable pub last_line : List ℕ → Stepped → ℕ → ℕ → List ℕ
 last_line start x n b =
     start
     ++ (field x.state.offset 44
-    ++ (field (answer_refusal x.answer).number 44
+    ++ (field (refusal_of x.answer).number 44
     ++ totals n b))
 
 -- the beginning of a last line: `end` and how the recovery ended

@@ -5,23 +5,18 @@
 use report::input::list_input;
 use std::io::Write;
 use std::process::ExitCode;
-use stdio::{Input, read_all};
+use stdio::{Failure, exit_code, read_all};
 
-// Says why there is no listing. Where that cannot be written either, the status alone says it.
-fn failed(rt: &impl Eprint, why: &str) -> ExitCode {
-    let _ = rt.eprintln(why);
-    ExitCode::FAILURE
+fn print_listing(rt: &HostRuntime) -> Result<(), Failure> {
+    let mut input = [0u8; 32784];
+    let mut out = [0u8; 102400];
+    let n = read_all(&mut rt.stdin(), &mut input).map_err(|_| Failure::Input)?;
+    let end = list_input(&input, n, &mut out);
+    rt.stdout()
+        .write_all(&out[..end])
+        .map_err(|_| Failure::Output)
 }
 
 fn main(rt: HostRuntime) -> ExitCode {
-    let mut input = [0u8; 32784];
-    let mut out = [0u8; 102400];
-    let Input::Bytes(n) = read_all(&mut rt.stdin(), &mut input) else {
-        return failed(&rt, "listing: standard input cannot be read");
-    };
-    let end = list_input(&input, n, &mut out);
-    match rt.stdout().write_all(&out[..end]) {
-        Ok(()) => ExitCode::SUCCESS,
-        Err(_) => failed(&rt, "listing: standard output cannot be written"),
-    }
+    exit_code(&rt, "listing", print_listing(&rt))
 }

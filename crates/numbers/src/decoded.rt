@@ -1,13 +1,12 @@
 // Records and frames as numbers.
 ghost use Rattle.std.specs.Prelude.{◌≡◌};
-ghost use Rattle.numbers.specs.Inside.{plain_of};
-ghost use Rattle.numbers.specs.Reading.{read_as, frame_as, unknown_as, frame_by, no_frame_for, decoded_by};
+ghost use Rattle.numbers.specs.Reading.{read_as, unknown_as, frame_by, decoded_by};
 
-use crate::refused::{NONE, Refused, refused_by};
-use decode::{Decoding, Frame};
+use crate::refused::{NONE, Refused};
+use decode::Frame;
 use payload::Decoded;
 use waymaker_core::activity::ActivityKind;
-use waymaker_core::error::Refusal;
+use waymaker_core::error::{DecodeError, Refusal};
 use waymaker_core::id::EffectSeq;
 use waymaker_core::record::{Part, Record, RecordKind, RecordRef};
 use waymaker_core::timer::ClockKind;
@@ -21,7 +20,8 @@ pub struct ReadRecord {
     pub free: Part,
 }
 
-// What decode answers. Where known is 0 the kind is not known, and of the record only the kind says something.
+// What decode answers. Where known is 0 the kind is not known, and of the record only the kind says something: C has
+// this flag and plain numbers in place of the enum.
 #[repr(C)]
 #[derive(Clone, Copy)]
 pub struct DecodedFrame {
@@ -53,127 +53,128 @@ pub const NO_RECORD: Record = Record {
     version: 0,
 };
 
-// Over a record of its kind and sequence.
-fn read_over(plain: Record, found: RecordRef) -> ReadRecord
-    requires { plain ≡ plain_of found }
-    ensures { result ≡ read_as found }
-{
-    let mut record = plain;
-    let mut free = NO_PART;
-    match found {
-        RecordRef::RunStarted {
-            workflow_kind,
-            workflow_version,
-            input,
-        } => {
-            record.workflow_kind = workflow_kind;
-            record.workflow_version = workflow_version;
-            free = input;
-        }
-        RecordRef::EffectScheduled {
-            kind,
-            input_len,
-            input_crc,
-            ..
-        } => {
-            record.activity = kind;
-            record.input_len = input_len;
-            record.input_crc = input_crc;
-        }
-        RecordRef::EffectCompleted { result, .. } => free = result,
-        RecordRef::EffectFailed { error, .. } => free = error,
-        RecordRef::TimerScheduled {
-            clock_kind,
-            deadline,
-            armed_at,
-            ..
-        } => {
-            record.clock_kind = clock_kind;
-            record.deadline = deadline;
-            record.armed_at = armed_at;
-        }
-        RecordRef::TimerFired { .. } => {}
-        RecordRef::RunCompleted { result } => free = result,
-        RecordRef::RunFailed { error } => free = error,
-        RecordRef::VersionMarker { gate, version, .. } => {
-            record.gate = gate;
-            record.version = version;
-        }
-    }
-    ReadRecord { record, free }
-}
+// What stands where there is no frame.
+const NO_FRAME: DecodedFrame = DecodedFrame {
+    refused: NONE,
+    known: 0,
+    format_version: 0,
+    record: NO_RECORD,
+    free: NO_PART,
+    payload: NO_PART,
+    frame_len: 0,
+    frame_crc: 0,
+};
 
-pub fn read_as(found: RecordRef) -> ReadRecord
-    ensures { result ≡ read_as found }
-{
-    let plain = Record::new(found.kind(), found.seq());
-    read_over(plain, found)
-}
+impl From<RecordRef> for ReadRecord {
+    ghost from_gives = { λ found read. read ≡ read_as found };
 
-fn frame_as(known: u8, read: ReadRecord, frame: Frame) -> DecodedFrame
-    ensures { result ≡ frame_as known read frame }
-{
-    let record = read.record;
-    let free = read.free;
-    let payload = frame.payload;
-    DecodedFrame {
-        refused: NONE,
-        known,
-        format_version: frame.format_version,
-        record,
-        free,
-        payload,
-        frame_len: frame.frame_len,
-        frame_crc: frame.frame_crc,
+    #[tactic(auto, unfolding(waymaker_core::specs::Kinds::plain_record))]
+    fn from(found: RecordRef) -> ReadRecord {
+        let plain = Record::new(found.kind(), found.seq());
+        match found {
+            RecordRef::RunStarted {
+                workflow_kind,
+                workflow_version,
+                input,
+            } => ReadRecord {
+                record: Record {
+                    workflow_kind,
+                    workflow_version,
+                    ..plain
+                },
+                free: input,
+            },
+            RecordRef::EffectScheduled {
+                kind,
+                input_len,
+                input_crc,
+                ..
+            } => ReadRecord {
+                record: Record {
+                    activity: kind,
+                    input_len,
+                    input_crc,
+                    ..plain
+                },
+                free: NO_PART,
+            },
+            RecordRef::TimerScheduled {
+                clock_kind,
+                deadline,
+                armed_at,
+                ..
+            } => ReadRecord {
+                record: Record {
+                    clock_kind,
+                    deadline,
+                    armed_at,
+                    ..plain
+                },
+                free: NO_PART,
+            },
+            RecordRef::VersionMarker { gate, version, .. } => ReadRecord {
+                record: Record {
+                    gate,
+                    version,
+                    ..plain
+                },
+                free: NO_PART,
+            },
+            RecordRef::TimerFired { .. } => ReadRecord {
+                record: plain,
+                free: NO_PART,
+            },
+            RecordRef::EffectCompleted { result: free, .. }
+            | RecordRef::EffectFailed { error: free, .. }
+            | RecordRef::RunCompleted { result: free }
+            | RecordRef::RunFailed { error: free } => ReadRecord {
+                record: plain,
+                free,
+            },
+        }
     }
 }
 
 fn unknown_as(kind: RecordKind) -> ReadRecord
     ensures { result ≡ unknown_as kind }
 {
-    let record = Record::new(kind, EffectSeq::FIRST);
     ReadRecord {
-        record,
+        record: Record { kind, ..NO_RECORD },
         free: NO_PART,
     }
 }
 
-fn frame_by(frame: Frame) -> DecodedFrame
-    ensures { result ≡ frame_by frame frame.decoded }
-{
-    let decoded = frame.decoded;
-    match decoded {
-        Decoded::Record(found) => {
-            let read = read_as(found);
-            return frame_as(1, read, frame);
-        }
-        Decoded::UnknownKind(kind) => {
-            let read = unknown_as(kind);
-            return frame_as(0, read, frame);
+impl From<Frame> for DecodedFrame {
+    ghost from_gives = { λ frame given. given ≡ frame_by frame frame.decoded };
+
+    fn from(frame: Frame) -> DecodedFrame {
+        let (known, read) = match frame.decoded {
+            Decoded::Record(found) => (1, ReadRecord::from(found)),
+            Decoded::UnknownKind(kind) => (0, unknown_as(kind)),
+        };
+        DecodedFrame {
+            refused: NONE,
+            known,
+            format_version: frame.format_version,
+            record: read.record,
+            free: read.free,
+            payload: frame.payload,
+            frame_len: frame.frame_len,
+            frame_crc: frame.frame_crc,
         }
     }
 }
 
-fn no_frame_for(refused: Refused) -> DecodedFrame
-    ensures { result ≡ no_frame_for refused }
-{
-    DecodedFrame {
-        refused,
-        known: 0,
-        format_version: 0,
-        record: NO_RECORD,
-        free: NO_PART,
-        payload: NO_PART,
-        frame_len: 0,
-        frame_crc: 0,
-    }
-}
+impl From<Result<Frame, DecodeError>> for DecodedFrame {
+    ghost from_gives = { λ decoding given. given ≡ decoded_by decoding };
 
-pub fn decoded_by(decoding: Decoding) -> DecodedFrame
-    ensures { result ≡ decoded_by decoding }
-{
-    match decoding {
-        Decoding::Frame(frame) => return frame_by(frame),
-        Decoding::Refused(error) => return no_frame_for(refused_by(Refusal::Decode(error))),
+    fn from(decoding: Result<Frame, DecodeError>) -> DecodedFrame {
+        match decoding {
+            Ok(frame) => DecodedFrame::from(frame),
+            Err(error) => DecodedFrame {
+                refused: Refused::from(Refusal::Decode(error)),
+                ..NO_FRAME
+            },
+        }
     }
 }

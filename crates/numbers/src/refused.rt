@@ -1,13 +1,12 @@
 // Refusals, lengths and settings as numbers.
-ghost use Rattle.std.specs.Prelude.{◌≡◌};
-ghost use Rattle.numbers.specs.Refusing.{refused_by, length_by, frame_length_by, settings_by};
+ghost use Rattle.std.specs.Prelude.{◌≡◌, MatchResult};
+ghost use Rattle.numbers.specs.Refusing.{not_refused, refused_by, length_by, frame_length_by, settings_by};
 
-use decode::FrameLen;
-use frame::lengths::Size;
-use storage::geometry::{Checked, Geometry};
-use waymaker_core::error::Refusal;
+use storage::geometry::Geometry;
+use waymaker_core::error::{DecodeError, Refusal};
 
-// Document 01's number of a refusal and the values that come with it; all 0 where nothing is refused.
+// Document 01's number of a refusal and the values that come with it; all 0 where nothing is refused. Here and in the
+// structs below C takes numbers in place of an enum: each has its refusal and its value side by side.
 #[repr(C)]
 #[derive(Clone, Copy)]
 pub struct Refused {
@@ -44,69 +43,51 @@ pub const NO_GEOMETRY: Geometry = Geometry {
     read_size: 0,
 };
 
-pub fn refused_by(refusal: Refusal) -> Refused
-    ensures { result ≡ refused_by refusal }
-{
-    let number = refusal.number();
-    let needed = refusal.needed();
-    let available = refusal.available();
-    Refused {
-        number,
-        needed,
-        available,
-    }
-}
+impl From<Refusal> for Refused {
+    ghost from_gives = { λ refusal refused. refused ≡ refused_by refusal };
 
-pub fn length_by(size: Size) -> Length
-    ensures { result ≡ length_by size }
-{
-    match size {
-        Size::Bytes(bytes) => {
-            return Length {
-                refused: NONE,
-                bytes,
-            };
-        }
-        Size::Refused(refusal) => {
-            let refused = refused_by(refusal);
-            return Length { refused, bytes: 0 };
+    fn from(refusal: Refusal) -> Refused {
+        Refused {
+            number: refusal.number(),
+            needed: refusal.needed(),
+            available: refusal.available(),
         }
     }
 }
 
-pub fn frame_length_by(len: FrameLen) -> Length
-    ensures { result ≡ frame_length_by len }
+// What C has in place of a Result: the refusal, or none, and the value, or what stands where there is none.
+pub fn apart<T: Drop>(answer: Result<T, Refusal>, otherwise: T) -> (Refused, T)
+    ensures { MatchResult answer (λ value. result ≡ (not_refused, value)) (λ e. result ≡ (refused_by e, otherwise)) }
 {
-    match len {
-        FrameLen::Bytes(bytes) => {
-            return Length {
-                refused: NONE,
-                bytes,
-            };
-        }
-        FrameLen::Refused(error) => {
-            let refused = refused_by(Refusal::Decode(error));
-            return Length { refused, bytes: 0 };
-        }
+    match answer {
+        Ok(value) => (NONE, value),
+        Err(refusal) => (Refused::from(refusal), otherwise),
     }
 }
 
-pub fn settings_by(checked: Checked) -> Settings
-    ensures { result ≡ settings_by checked }
-{
-    match checked {
-        Checked::Allowed(geometry) => {
-            return Settings {
-                refused: NONE,
-                geometry,
-            };
-        }
-        Checked::Refused(refusal) => {
-            let refused = refused_by(refusal);
-            return Settings {
-                refused,
-                geometry: NO_GEOMETRY,
-            };
-        }
+impl From<Result<usize, Refusal>> for Length {
+    ghost from_gives = { λ size length. length ≡ length_by size };
+
+    fn from(size: Result<usize, Refusal>) -> Length {
+        let (refused, bytes) = apart(size, 0);
+        Length { refused, bytes }
+    }
+}
+
+// A frame's length likewise.
+impl From<Result<usize, DecodeError>> for Length {
+    ghost from_gives = { λ size length. length ≡ frame_length_by size };
+
+    fn from(size: Result<usize, DecodeError>) -> Length {
+        Length::from(size.map_err(Refusal::Decode))
+    }
+}
+
+impl From<Result<Geometry, Refusal>> for Settings {
+    ghost from_gives = { λ checked settings. settings ≡ settings_by checked };
+
+    fn from(checked: Result<Geometry, Refusal>) -> Settings {
+        let (refused, geometry) = apart(checked, NO_GEOMETRY);
+        Settings { refused, geometry }
     }
 }

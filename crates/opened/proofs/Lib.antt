@@ -1,3 +1,2 @@
 -- The laws of an opening and an append as numbers.
-pub mod Exits
 pub mod Numbers

@@ -2,12 +2,13 @@
 #![tactic(auto)]
 
 ghost use Rattle.std.specs.Prelude.{◌≡◌};
-ghost use Rattle.opened.specs.Appending.{opened_by, advanced_to, advanced_by};
+ghost use Rattle.opened.specs.Appending.{opened_by, advanced_by};
 
 use counts::WriteAmplification;
-use journal::{Journal, Opening};
-use numbers::refused::{NO_GEOMETRY, NONE, Refused, refused_by};
+use journal::Journal;
+use numbers::refused::{NO_GEOMETRY, NONE, Refused, apart};
 use progress::{Advanced, Progress};
+use waymaker_core::error::Refusal;
 
 // The journal is all 0 where the opening is refused.
 #[repr(C)]
@@ -43,52 +44,28 @@ const NO_JOURNAL: Journal = Journal {
     written: UNWRITTEN,
 };
 
-pub fn opened_by(opening: Opening) -> OpenedJournal
-    ensures { result ≡ opened_by opening }
-{
-    match opening {
-        Opening::Opened(journal) => {
-            return OpenedJournal {
-                refused: NONE,
-                journal,
-            };
-        }
-        Opening::Refused(refusal) => {
-            let refused = refused_by(refusal);
-            return OpenedJournal {
-                refused,
-                journal: NO_JOURNAL,
-            };
-        }
+impl From<Result<Journal, Refusal>> for OpenedJournal {
+    ghost from_gives = { λ opening given. given ≡ opened_by opening };
+
+    fn from(opening: Result<Journal, Refusal>) -> OpenedJournal {
+        let (refused, journal) = apart(opening, NO_JOURNAL);
+        OpenedJournal { refused, journal }
     }
 }
 
-fn advanced_to(journal: Journal, written: WriteAmplification) -> AdvancedJournal
-    ensures { result ≡ advanced_to journal written }
-{
-    AdvancedJournal {
-        journal,
-        refused: NONE,
-        written,
-    }
-}
+impl From<Advanced> for AdvancedJournal {
+    ghost from_gives = { λ advanced given. given ≡ advanced_by advanced };
 
-pub fn advanced_by(x: Advanced) -> AdvancedJournal
-    ensures { result ≡ advanced_by x }
-{
-    let journal = x.journal;
-    let progress = x.progress;
-    match progress {
-        Progress::Staged => return advanced_to(journal, UNWRITTEN),
-        Progress::Confirmed => return advanced_to(journal, UNWRITTEN),
-        Progress::Committed(written) => return advanced_to(journal, written),
-        Progress::Refused(refusal) => {
-            let refused = refused_by(refusal);
-            return AdvancedJournal {
-                journal,
-                refused,
-                written: UNWRITTEN,
-            };
+    fn from(advanced: Advanced) -> AdvancedJournal {
+        let (refused, written) = match advanced.progress {
+            Ok(Progress::Committed(written)) => (NONE, written),
+            Ok(_) => (NONE, UNWRITTEN),
+            Err(refusal) => (Refused::from(refusal), UNWRITTEN),
+        };
+        AdvancedJournal {
+            journal: advanced.journal,
+            refused,
+            written,
         }
     }
 }

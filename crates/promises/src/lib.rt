@@ -9,12 +9,18 @@ ghost use Rattle.journal.specs.Opening.{Opens};
 ghost use Rattle.staging.specs.Stage.{Stages};
 ghost use Rattle.append.specs.Append.{Confirms, Commits};
 
-use journal::{Journal, Opening};
+use journal::Journal;
 use progress::Advanced;
 use recovery::next::{Recovery, Stepped};
+use waymaker_core::error::Refusal;
 use waymaker_core::record::Record;
 
-fn opens(program_size: usize, read_size: usize, region: &[u8], page: &mut [u8]) -> Opening
+fn opens(
+    program_size: usize,
+    read_size: usize,
+    region: &[u8],
+    page: &mut [u8],
+) -> Result<Journal, Refusal>
     ensures { Opens program_size read_size region.now page.old result page.new }
 {
     Journal::open(program_size, read_size, region, page)

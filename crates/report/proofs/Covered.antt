@@ -1,6 +1,7 @@
 -- A page of at least 32,768 bytes holds every read of a region that is listed, so the lines are those of the walk with
 -- no page.
 -- Assumes nothing.
+use Rattle.std.specs.Prelude.{Ok, Err}
 use mathlib.Core.Path.{◌≡◌, refl, sym, ap₂}
 use mathlib.Core.Bool.{true}
 use mathlib.Core.List.{List}
@@ -9,9 +10,7 @@ use native.Mathlib.Omega.{arith}
 use lib.ListN.{length}
 use Rattle.waymaker_core.proofs.Choice.{cond_case}
 use Rattle.storage.specs.declared.geometry.Geometry.{Geometry}
-use Rattle.storage.specs.declared.geometry.Checked.{Checked}
-use Rattle.storage.specs.declared.geometry.Checked.TheVariants.{Allowed, Refused}
-use Rattle.storage.specs.Settings.{allowed, settings}
+use Rattle.storage.specs.Settings.{Checked, allowed, settings}
 use Rattle.storage.proofs.Units.{allowed_is}
 use Rattle.look.specs.Reads.{capacity_of}
 use Rattle.recovery.specs.Next.{fresh}
@@ -23,8 +22,8 @@ use Rattle.report.specs.Inside.{paged_lines}
 
 -- the listing with the settings checked, through a page
 abbrev pub paged_with : List ℕ → List ℕ → Checked → List ℕ
-paged_with region page (Refused e) = refused_line
-paged_with region page (Allowed g) = paged_lines (fresh g) region page
+paged_with region page (Err e) = refused_line
+paged_with region page (Ok g) = paged_lines (fresh g) region page
 
 module _ (a r : ℕ) (region page : List ℕ) (h : length region ≤ 32768) (l : 32768 ≤ length page) where
   abbrev units : Geometry

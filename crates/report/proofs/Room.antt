@@ -8,6 +8,7 @@ use native.Mathlib.Omega.{arith}
 use lib.Dec.{eqb, ltb}
 use lib.ListN.{length, take, drop, length-append}
 use borrow.Author.Tests.{ltb-false}
+use Rattle.waymaker_core.specs.Refusals.{refusal_of}
 use Rattle.waymaker_core.specs.declared.«record».RecordRef.{RecordRef}
 use Rattle.waymaker_core.specs.declared.«record».RecordRef.TheVariants.{RunStarted, EffectScheduled, EffectCompleted, EffectFailed, TimerScheduled, TimerFired, RunCompleted, RunFailed, VersionMarker}
 use Rattle.waymaker_core.specs.Kinds.{kind_of, seq_of}
@@ -20,13 +21,13 @@ use Rattle.recovery.specs.declared.next.Ending.{Ending}
 use Rattle.recovery.specs.declared.next.Ending.TheVariants.{Open, Clean, Damaged, Incomplete, Unsealed}
 use Rattle.recovery.specs.declared.next.Found.{Found}
 use Rattle.recovery.specs.declared.next.Stepped.{Stepped}
-use Rattle.recovery.specs.Next.{answer_refusal, fresh}
+use Rattle.recovery.specs.Next.{fresh}
 use Rattle.finish.specs.Finish.{found_among, last_of}
 use Rattle.text.specs.Text.{codes, decimal, place_of}
 use Rattle.text.proofs.Digits.{decimal_length, decimal_most}
 use Rattle.text.proofs.Puts.{puts_whole}
 use Rattle.report.specs.declared.input.Units.{Units}
-use Rattle.report.specs.declared.input.Units.TheVariants.{Given, Bad as NoUnits}
+use Rattle.std.proofs.Common.{Option, Some, None}
 use Rattle.lines.specs.Lines.{field, record_line, totals, last_line, end_by, end_line}
 use Rattle.report.specs.Report.{record_lines, record_bytes, lines_of, walk_lines, listed_with, listed_region, units_of, listed_by, listing, Prints}
 
@@ -66,10 +67,10 @@ last_most : (word : List ℕ) (x : Stepped) (n b : ℕ) → length word ≤ 13 �
 unfolding last_line totals
 last_most word x n b h =
     let o : List ℕ = field x.state.offset 44 in
-    let e : List ℕ = field (answer_refusal x.answer).number 44 in
+    let e : List ℕ = field (refusal_of x.answer).number 44 in
     joined 13 84 word (o ++ (e ++ (field n 44 ++ field b 10))) h
     (joined 21 63 o (e ++ (field n 44 ++ field b 10)) (field_most x.state.offset 44)
-    (joined 21 42 e (field n 44 ++ field b 10) (field_most (answer_refusal x.answer).number 44)
+    (joined 21 42 e (field n 44 ++ field b 10) (field_most (refusal_of x.answer).number 44)
     (joined 21 21 (field n 44) (field b 10) (field_most n 44) (field_most b 10))))
 
 end_most : (e : Ending) (x : Stepped) (n b : ℕ) → length (end_by e x n b) ≤ 97
@@ -117,9 +118,9 @@ module _ (a r : ℕ) (region : List ℕ) where
 pub room : (input : List ℕ) → length (listing input) ≤ 102400
 unfolding listing
 room input = cond_case Fitting (eqb (place_of 10 input) (length input)) (λ _. omega arith) (λ _. go (drop (place_of 10 input + 1) input) (units_of (take (place_of 10 input) input))) where
-  go : (region : List ℕ) (u : Units) → Fitting (listed_by region u)
-  go region NoUnits = omega arith
-  go region (Given a r) = region_fits a r region
+  go : (region : List ℕ) (u : Option Units) → Fitting (listed_by region u)
+  go region None = omega arith
+  go region (Some u) = region_fits u.program_size u.read_size region
 
 -- an output of at least 102,400 bytes holds all of it
 pub whole : (input out : List ℕ) (n : ℕ) (out' : List ℕ) → Prints (listing input) out n out' → 102400 ≤ length out → take n out' ≡ listing input

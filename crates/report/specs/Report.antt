@@ -1,12 +1,8 @@
 -- A listing as document 01 states it: a line for each record that the walk over a region finds, then the last line; and
 -- the input that it is made from. No page and no output's length in it.
-use Rattle.std.specs.Prelude.{◌≡◌, cond, List, [], ◌∷◌, ◌++◌, ℕ, ◌+◌, ◌≤◌, eqb, ltb, length, take, drop}
+use Rattle.std.specs.Prelude.{◌≡◌, cond, Option, Some, None, Ok, Err, List, [], ◌∷◌, ◌++◌, ℕ, ◌+◌, ◌≤◌, eqb, ltb, length, take, drop}
 use Rattle.storage.specs.declared.geometry.Geometry.{Geometry}
-use Rattle.storage.specs.declared.geometry.Checked.{Checked}
-use Rattle.storage.specs.declared.geometry.Checked.TheVariants.{Allowed, Refused}
-use Rattle.storage.specs.Settings.{settings}
-use Rattle.text.specs.declared.Number.{Number}
-use Rattle.text.specs.declared.Number.TheVariants.{Value, Bad}
+use Rattle.storage.specs.Settings.{Checked, settings}
 use Rattle.text.specs.Text.{laid_at, end_at, place_of, number_of}
 use Rattle.place.specs.Walk.{plain, Walk, walk}
 use Rattle.recovery.specs.declared.next.Found.{Found as OneFound}
@@ -15,7 +11,6 @@ use Rattle.recovery.specs.Next.{fresh}
 use Rattle.finish.specs.Finish.{found_among, last_of}
 use Rattle.lines.specs.Lines.{record_line, end_line, refused_line}
 use Rattle.report.specs.declared.input.Units.{Units}
-use Rattle.report.specs.declared.input.Units.TheVariants.{Given, Bad as NoUnits}
 
 -- a line for each record
 unfoldable pub record_lines : List OneFound → List ℕ
@@ -37,8 +32,8 @@ walk_lines g w = lines_of (found_among w.points) (last_of (fresh g) w)
 
 -- with the settings checked
 abbrev pub listed_with : List ℕ → Checked → List ℕ
-listed_with region (Refused e) = refused_line
-listed_with region (Allowed g) = walk_lines g (walk (plain g.program_size) region 0)
+listed_with region (Err e) = refused_line
+listed_with region (Ok g) = walk_lines g (walk (plain g.program_size) region 0)
 
 -- a region of at most 32,768 bytes
 unfoldable pub listed_region : ℕ → ℕ → List ℕ → List ℕ
@@ -53,19 +48,19 @@ around_first b s none parts =
     cond (eqb at (length s)) none (parts (take at s) (drop (at + 1) s))
 
 -- two numbers are two units
-abbrev pub given_by : Number → Number → Units
-given_by Bad y = NoUnits
-given_by (Value a) Bad = NoUnits
-given_by (Value a) (Value r) = Given a r
+abbrev pub given_by : Option ℕ → Option ℕ → Option Units
+given_by None y = None
+given_by (Some a) None = None
+given_by (Some a) (Some r) = Some (record { program_size = a; read_size = r })
 
 -- a line `a,r`: a number before the first comma, and one behind it
-unfoldable pub units_of : List ℕ → Units
-units_of line = around_first 44 line NoUnits (λ x y. given_by (number_of x) (number_of y))
+unfoldable pub units_of : List ℕ → Option Units
+units_of line = around_first 44 line None (λ x y. given_by (number_of x) (number_of y))
 
 -- a region under the units that its first line says
-abbrev pub listed_by : List ℕ → Units → List ℕ
-listed_by region NoUnits = refused_line
-listed_by region (Given a r) = listed_region a r region
+abbrev pub listed_by : List ℕ → Option Units → List ℕ
+listed_by region None = refused_line
+listed_by region (Some u) = listed_region u.program_size u.read_size region
 
 -- the listing of an input: its first line, which a line feed ends, says the units; what is behind it is the region
 unfoldable pub listing : List ℕ → List ℕ

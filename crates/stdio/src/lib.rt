@@ -1,62 +1,69 @@
-// Input read whole and told from input that cannot be read.
+// Input read whole and told from input that cannot be read; what a program says of a stream that failed.
 #![tactic(auto)]
 
 ghost use Rattle.std.specs.Io.KnownBytes.{IsAtEnd};
-ghost use Rattle.std.specs.Prelude.{◌≡◌, ◌<◌, length, take};
-ghost use Rattle.stdio.specs.Stdio.{OnBytes, ReadsInput, GivesConsumed, IsShortAtEnd};
+ghost use Rattle.std.specs.Prelude.{◌≡◌, ◌<◌, ◌≤◌, IfOk, MatchResult, length, take};
+ghost use Rattle.stdio.specs.Stdio.{ReadsInput, GivesConsumed, IsShortAtEnd};
 
-use std::io::{ErrorKind, Read};
+use std::io::{self, ErrorKind, Read};
+use std::process::ExitCode;
+use thiserror::Error;
 
-// What came of reading: so many bytes, or a read that failed.
-#[derive(Clone, Copy)]
-pub enum Input {
-    Bytes(usize),
-    Failed,
+// The stream that failed a program.
+#[derive(Debug, Drop, Error)]
+pub enum Failure {
+    #[error("standard input cannot be read")]
+    Input,
+    #[error("standard output cannot be written")]
+    Output,
+}
+
+// The status of a program. What failed it is said on standard error; where that cannot be written either, the status
+// alone says it.
+pub fn exit_code(rt: &impl Eprint, program: &str, outcome: Result<(), Failure>) -> ExitCode
+    ensures { MatchResult outcome (λ _. result ≡ ExitCode.SUCCESS) (λ _. result ≡ ExitCode.FAILURE) }
+{
+    match outcome {
+        Ok(()) => ExitCode::SUCCESS,
+        Err(failure) => {
+            let _ = eprintln!(rt; "{program}: {failure}");
+            ExitCode::FAILURE
+        }
+    }
 }
 
 // One read to the part of the buffer from a place on: how many bytes came, 0 at the end of the input. It is tried again
 // where it is interrupted; no program waits for the 2^64 tries after which it would fail, but a function has to end.
-fn read_from<R: Read>(reader: &mut R, buf: &mut [u8], from: usize) -> Input
+fn read_from<R: Read>(reader: &mut R, buf: &mut [u8], from: usize) -> io::Result<usize>
+    requires { from ≤ length buf.old }
     ensures within { ReadsInput from buf.new result }
     ensures bytes { GivesConsumed from (R.remaining reader.old) (R.remaining reader.new) buf.new result }
-    ensures end { OnBytes result (λ n. n ≡ 0 → from < length buf.new → IsAtEnd (R.remaining reader.new)) }
+    ensures end { IfOk result (λ n. n ≡ 0 → from < length buf.new → IsAtEnd (R.remaining reader.new)) }
     ensures front { take from buf.new ≡ take from buf.old }
 {
-    if buf.len() < from {
-        return Input::Failed;
-    }
     for _ in 0..u64::MAX {
         match reader.read(&mut buf[from..]) {
-            Ok(n) => return Input::Bytes(n),
-            Err(e) => {
-                if e.kind() != ErrorKind::Interrupted {
-                    return Input::Failed;
-                }
-            }
+            Err(e) if e.kind() == ErrorKind::Interrupted => {}
+            answer => return answer,
         }
     }
-    Input::Failed
+    Err(ErrorKind::Interrupted.into())
 }
 
-// Reads until the buffer is full or the input ends. A read that fails is not taken for the end.
-pub fn read_all<R: Read>(reader: &mut R, buf: &mut [u8]) -> Input
+// Reads until the buffer is full or the input ends: how many bytes came. A read that fails is not taken for the end.
+// Of std's own, `read_exact` says nothing of how many came, and `read_to_end` wants a heap.
+pub fn read_all<R: Read>(reader: &mut R, buf: &mut [u8]) -> io::Result<usize>
     ensures within { ReadsInput 0 buf.new result }
     ensures bytes { GivesConsumed 0 (R.remaining reader.old) (R.remaining reader.new) buf.new result }
     ensures end { IsShortAtEnd (R.remaining reader.new) buf.new result }
 {
-    let len = buf.len();
-    let mut left = len;
-    while left > 0 {
-        let one = read_from(reader, buf, len - left);
-        match one {
-            Input::Failed => return Input::Failed,
-            Input::Bytes(n) => {
-                if n == 0 {
-                    return Input::Bytes(len - left);
-                }
-                left -= n;
-            }
+    let mut filled = 0;
+    while filled < buf.len() {
+        let n = read_from(reader, buf, filled)?;
+        if n == 0 {
+            return Ok(filled);
         }
+        filled += n;
     }
-    Input::Bytes(len)
+    Ok(filled)
 }

@@ -1,119 +1,85 @@
 // Appends to small regions and prints each step: records that go through, steps out of order, and what does not fit.
 #![tactic(auto)]
 
-mod out;
+mod shown;
 
 use append::step::{commit, payload_barrier};
-use journal::{Journal, Opening};
-use out::{refused, show};
-use printing::{number, text};
-use progress::Advanced;
+use journal::Journal;
+use shown::{Refused, Step};
 use staging::step::stage;
+use std::io;
 use waymaker_core::id::EffectSeq;
 use waymaker_core::record::{Record, RecordKind};
 use waymaker_core::timer::ClockKind;
 
-fn fired(seq: u32) -> Record {
-    Record::new(RecordKind::TIMER_FIRED, EffectSeq(seq))
+// A step of an append.
+#[derive(Clone, Copy)]
+enum Call {
+    Stage(Record),
+    Barrier,
+    Commit,
 }
 
-fn timer(clock: u8) -> Record {
-    let mut record = Record::new(RecordKind::TIMER_SCHEDULED, EffectSeq(9));
-    let kind = ClockKind(clock);
-    record.clock_kind = kind;
-    record
+// Makes a step, prints its answer, and gives the journal on.
+fn show(
+    rt: &impl Print,
+    journal: Journal,
+    call: Call,
+    region: &mut [u8],
+    page: &mut [u8],
+) -> io::Result<Journal> {
+    let (name, step) = match call {
+        Call::Stage(record) => ("stage", stage(journal, record, b"", region, page)),
+        Call::Barrier => ("barrier", payload_barrier(journal, region)),
+        Call::Commit => ("commit", commit(journal, region)),
+    };
+    println!(rt; "{name}: {}", Step(step))?;
+    Ok(step.journal)
 }
 
-fn staged(journal: Journal, record: Record, region: &mut [u8], page: &mut [u8]) -> Journal {
-    let x = stage(journal, record, b"", region, page);
-    text(b"stage: ");
-    show(x);
-    x.journal
+fn fired(seq: u32) -> Call {
+    Call::Stage(Record::new(RecordKind::TIMER_FIRED, EffectSeq(seq)))
 }
 
-fn barred(journal: Journal, region: &[u8]) -> Journal {
-    let x = payload_barrier(journal, region);
-    text(b"barrier: ");
-    show(x);
-    x.journal
-}
-
-fn committed(journal: Journal, region: &mut [u8]) -> Journal {
-    let x: Advanced = commit(journal, region);
-    text(b"commit: ");
-    show(x);
-    x.journal
-}
-
-// The steps of an append in their order.
-fn appended(journal: Journal, record: Record, region: &mut [u8], page: &mut [u8]) -> Journal {
-    let begun = staged(journal, record, region, page);
-    let firm = barred(begun, region);
-    committed(firm, region)
-}
-
-// A second stage changes nothing.
-fn twice(journal: Journal, region: &mut [u8], page: &mut [u8]) -> Journal {
-    let begun = staged(journal, fired(7), region, page);
-    staged(begun, fired(8), region, page)
-}
-
-// A commit before the barrier changes nothing, and the append goes on.
-fn early(journal: Journal, region: &mut [u8]) -> Journal {
-    let same = committed(journal, region);
-    let firm = barred(same, region);
-    committed(firm, region)
-}
-
-fn refusals(journal: Journal, region: &mut [u8], page: &mut [u8]) {
-    staged(journal, timer(3), region, page);
-    staged(
-        journal,
-        Record::new(RecordKind(0), EffectSeq(0)),
-        region,
-        page,
-    );
-    barred(journal, region);
-}
-
-fn first(journal: Journal, region: &mut [u8], page: &mut [u8]) -> Journal {
-    let begun = twice(journal, region, page);
-    early(begun, region)
-}
-
-fn run(journal: Journal, region: &mut [u8], page: &mut [u8]) {
-    let ready = first(journal, region, page);
-    appended(ready, fired(8), region, page);
+// Two records that are refused, for their clock and their kind, and a barrier with nothing under way; then an append
+// with a second stage and an early commit, which change nothing; and an append in order.
+fn calls() -> [Call; 11] {
+    let no_clock = Record {
+        clock_kind: ClockKind(3),
+        ..Record::new(RecordKind::TIMER_SCHEDULED, EffectSeq(9))
+    };
+    let no_kind = Record::new(RecordKind(0), EffectSeq(0));
+    [
+        Call::Stage(no_clock),
+        Call::Stage(no_kind),
+        Call::Barrier,
+        fired(7),
+        fired(8),
+        Call::Commit,
+        Call::Barrier,
+        Call::Commit,
+        fired(8),
+        Call::Barrier,
+        Call::Commit,
+    ]
 }
 
 // Opens, and appends what fits.
-fn try_region(region: &mut [u8], page: &mut [u8]) {
-    let opening = Journal::open(4, 1, region, page);
-    match opening {
-        Opening::Opened(journal) => {
-            text(b"ready at");
-            number(journal.offset as u64);
-            text(b"\n");
-            refusals(journal, region, page);
-            run(journal, region, page);
-        }
-        Opening::Refused(refusal) => {
-            refused(refusal);
-            text(b"\n");
-        }
+fn run(rt: &impl Print, name: &str, region: &mut [u8], page: &mut [u8]) -> io::Result<()> {
+    rt.println(name)?;
+    let mut journal = match Journal::open(4, 1, region, page) {
+        Ok(journal) => journal,
+        Err(refusal) => return rt.println(Refused(refusal)),
+    };
+    println!(rt; "ready at {}", journal.offset)?;
+    for call in calls() {
+        journal = show(rt, journal, call, region, page)?;
     }
+    Ok(())
 }
 
-fn main() {
-    let mut page = [0u8; 64];
-    let mut forty = [255u8; 40];
-    let mut less = [255u8; 39];
-    text(b"40 bytes\n");
-    try_region(&mut forty, &mut page);
-    text(b"39 bytes\n");
-    try_region(&mut less, &mut page);
-    let mut little = [0u8; 19];
-    let mut blank = [255u8; 40];
-    text(b"a page of 19 bytes\n");
-    try_region(&mut blank, &mut little);
+fn main(rt: HostRuntime) -> io::Result<()> {
+    run(&rt, "40 bytes", &mut [255; 40], &mut [0; 64])?;
+    run(&rt, "39 bytes", &mut [255; 39], &mut [0; 64])?;
+    run(&rt, "a page of 19 bytes", &mut [255; 40], &mut [0; 19])
 }

@@ -3,111 +3,60 @@
 // with Python's own CRCs.
 #![tactic(auto)]
 
-ghost use Rattle.std.specs.Prelude.{◌≤◌};
+ghost use Rattle.std.specs.Prelude.{◌<◌};
 
 use integrity::{frame_check, header_check};
-use printing::{hex, text};
+use std::io;
 
-fn short(n: u16) {
-    hex(n as u64, 4);
+// Both checks, or what stands for them, behind a name.
+fn show(rt: &impl Print, name: &str, header: u16, frame: u32) -> io::Result<()> {
+    println!(rt; "{name}: {header:#06x} {frame:#010x}")
 }
 
-fn long(n: u32) {
-    hex(n as u64, 8);
+fn show_checks(rt: &impl Print, name: &str, message: &[u8]) -> io::Result<()> {
+    show(rt, name, header_check(message), frame_check(message))
 }
 
-// Both checks of a message.
-fn show_checks(message: &[u8]) {
-    short(header_check(message));
-    text(b" ");
-    long(frame_check(message));
-    text(b"\n");
+// A message followed by its own check, least significant octet first, for each of the two: the registers before the
+// complement.
+fn show_good(rt: &(impl Print + AllocGlobal), name: &str, message: &[u8]) -> io::Result<()> {
+    let mut with16 = message.to_vec(rt.alloc())?;
+    with16.extend_from_slice(&header_check(message).to_le_bytes())?;
+    let mut with32 = message.to_vec(rt.alloc())?;
+    with32.extend_from_slice(&frame_check(message).to_le_bytes())?;
+    show(rt, name, !header_check(&with16), !frame_check(&with32))
 }
 
-// The registers before the complement.
-fn show_registers(with16: &[u8], with32: &[u8]) {
-    short(header_check(with16) ^ 0xffff);
-    text(b" ");
-    long(frame_check(with32) ^ 0xffffffff);
-    text(b"\n");
-}
-
-// A message followed by its own check, least significant octet first, for each of the two.
-fn show_good_digits() {
-    let c = header_check(b"123456789");
-    let mut with16 = *b"123456789  ";
-    with16[9] = (c % 256) as u8;
-    with16[10] = (c / 256) as u8;
-    let d = frame_check(b"123456789");
-    let mut with32 = *b"123456789    ";
-    with32[9] = (d % 256) as u8;
-    with32[10] = (d / 256 % 256) as u8;
-    with32[11] = (d / 65536 % 256) as u8;
-    with32[12] = (d / 16777216) as u8;
-    show_registers(&with16, &with32);
-}
-
-fn show_good_nothing() {
-    let c = header_check(b"");
-    let with16 = [(c % 256) as u8, (c / 256) as u8];
-    let d = frame_check(b"");
-    let with32 = [
-        (d % 256) as u8,
-        (d / 256 % 256) as u8,
-        (d / 65536 % 256) as u8,
-        (d / 16777216) as u8,
-    ];
-    show_registers(&with16, &with32);
-}
-
-// Entry i of RFC 1662's table for 16 bits: the register of all ones takes up the octet that leaves i at its low end.
-fn entry16(i: u8) -> u16 {
-    let one = [i ^ 0xff];
-    header_check(&one) ^ 0xff00
-}
-
-fn entry32(i: u8) -> u32 {
-    let one = [i ^ 0xff];
-    frame_check(&one) ^ 0xff000000
-}
-
-// After an entry: the next one in the line, or the next line.
-fn after(i: u8, columns: u8)
-    requires { 1 ≤ columns }
+// RFC 1662's table of a check, so many entries in a line of so many characters each. Entry i is the register of all
+// ones that takes up the octet that leaves i at its low end, without the ones that are left at its high end.
+fn show_table<C: Fn(&[u8]) -> u32>(
+    rt: &impl Print,
+    columns: u8,
+    width: usize,
+    check: C,
+    high: u32,
+) -> io::Result<()>
+    requires some { 0 < columns }
+    requires callable { C.IsAlwaysCallable check }
 {
-    if i % columns == columns - 1 {
-        text(b"\n");
-        return;
-    }
-    text(b" ");
-}
-
-fn show_entry(wide: bool, i: u8) {
-    if wide {
-        long(entry32(i));
-        after(i, 4);
-        return;
-    }
-    short(entry16(i));
-    after(i, 8);
-}
-
-fn show_table(wide: bool) {
     for i in 0..=255u8 {
-        show_entry(wide, i);
+        let entry = check(&[!i]) ^ high;
+        let end = if i % columns == columns - 1 {
+            "\n"
+        } else {
+            " "
+        };
+        print!(rt; "{entry:#0width$x}{end}")?;
     }
+    Ok(())
 }
 
-fn main() {
-    text(b"123456789: ");
-    show_checks(b"123456789");
-    text(b"nothing: ");
-    show_checks(b"");
-    text(b"123456789 and its check: ");
-    show_good_digits();
-    text(b"nothing and its check: ");
-    show_good_nothing();
-    text(b"RFC 1662's tables:\n");
-    show_table(false);
-    show_table(true);
+fn main(rt: HostRuntime) -> io::Result<()> {
+    show_checks(&rt, "123456789", b"123456789")?;
+    show_checks(&rt, "nothing", b"")?;
+    show_good(&rt, "123456789 and its check", b"123456789")?;
+    show_good(&rt, "nothing and its check", b"")?;
+    rt.println("RFC 1662's tables:")?;
+    show_table(&rt, 8, 6, |octet| u32::from(header_check(octet)), 0xff00)?;
+    show_table(&rt, 4, 10, frame_check, 0xff000000)
 }

@@ -1,25 +1,120 @@
 // The body is cut so that its header, or its whole frame, reads as that of another record, checks included. Few records
 // can be cut so; they are searched for from sequence 0 up.
-use crate::book::Item;
-use crate::cuts::{Family, cuts};
-use crate::front::may_read_as;
+use crate::cut::{MOST, cuts};
+use crate::item::Item;
 use crate::tally::Tally;
+use encode::encode;
+use testing::parts::first;
+use waymaker_core::record::RecordKind;
 
 // How many sequences are tried.
 const BUDGET: u32 = 20000;
 
 // What the record is, and what its first n bytes may read as; the sequence of the latter has these bits more.
 #[derive(Clone, Copy)]
-pub struct Pair {
-    pub kind: u8,
-    pub len: usize,
-    pub as_kind: u8,
-    pub as_len: usize,
-    pub bits: u32,
-    pub n: usize,
+struct Pair {
+    kind: RecordKind,
+    len: usize,
+    as_kind: RecordKind,
+    as_len: usize,
+    bits: u32,
+    n: usize,
 }
 
-fn one_seq(tally: Tally, a: u32, pair: Pair, seq: u32) -> Tally {
+impl Pair {
+    // Both have payloads of this length.
+    fn new(kind: RecordKind, as_kind: RecordKind, len: usize, bits: u32, n: usize) -> Self {
+        Pair {
+            kind,
+            len,
+            as_kind,
+            as_len: len,
+            bits,
+            n,
+        }
+    }
+}
+
+// Header checks that agree: one bit of the sequence more, another kind (of 4 and of 2, which is not skipped), and a
+// payload's length that reads as 4 and not 0.
+pub(crate) fn headers(a: u32) -> Tally {
+    let longer = Pair {
+        as_len: 4,
+        ..Pair::new(
+            RecordKind::EFFECT_COMPLETED,
+            RecordKind::EFFECT_COMPLETED,
+            0,
+            0,
+            12,
+        )
+    };
+    search(
+        a,
+        &[
+            Pair::new(
+                RecordKind::TIMER_FIRED,
+                RecordKind::TIMER_FIRED,
+                0,
+                0x100000,
+                12,
+            ),
+            Pair::new(RecordKind::EFFECT_FAILED, RecordKind::TIMER_FIRED, 0, 0, 12),
+            Pair::new(
+                RecordKind::EFFECT_SCHEDULED,
+                RecordKind::EFFECT_COMPLETED,
+                8,
+                0,
+                12,
+            ),
+            longer,
+        ],
+    )
+}
+
+// Frame checks that agree too. Of the bits above the sequences tried, those are chosen with which the fewest bits of
+// the two checks differ: 9, 10 and 9 of 48.
+pub(crate) fn frames(a: u32) -> Tally {
+    search(
+        a,
+        &[
+            Pair::new(
+                RecordKind::TIMER_FIRED,
+                RecordKind::TIMER_FIRED,
+                0,
+                0x70950000,
+                16,
+            ),
+            Pair::new(
+                RecordKind::EFFECT_FAILED,
+                RecordKind::TIMER_FIRED,
+                0,
+                0xc52d0000,
+                16,
+            ),
+            Pair::new(
+                RecordKind::EFFECT_SCHEDULED,
+                RecordKind::EFFECT_COMPLETED,
+                8,
+                0x70ed0000,
+                24,
+            ),
+        ],
+    )
+}
+
+fn laid(item: Item) -> [u8; MOST] {
+    let mut out = [255; MOST];
+    // None of the items here is refused; one that were would stay erased.
+    let _ = encode(item.record(), item.free(), 1, &mut out);
+    out
+}
+
+// Whether y has every 1 bit of x, so that a cut of x may read as y.
+fn covers(x: &[u8], y: &[u8]) -> bool {
+    x.iter().zip(y).all(|(x, y)| *x & *y == *x)
+}
+
+fn one_seq(tally: &mut Tally, a: u32, pair: Pair, seq: u32) {
     let item = Item {
         kind: pair.kind,
         seq,
@@ -30,60 +125,24 @@ fn one_seq(tally: Tally, a: u32, pair: Pair, seq: u32) -> Tally {
         seq: seq | pair.bits,
         len: pair.as_len,
     };
-    if may_read_as(item, other, pair.n) {
-        return cuts(tally, a, item, Family::Front(other, pair.n));
+    let front = laid(other);
+    if covers(first(&laid(item), pair.n), &front) {
+        cuts(
+            tally,
+            a,
+            item,
+            |cut, tally| cut.fronts(tally, front, pair.n),
+        );
+    }
+}
+
+// All cuts of this kind of the records of these pairs.
+fn search(a: u32, pairs: &[Pair]) -> Tally {
+    let mut tally = Tally::default();
+    for pair in pairs {
+        for seq in 0..BUDGET {
+            one_seq(&mut tally, a, *pair, seq);
+        }
     }
     tally
-}
-
-fn search(tally: Tally, a: u32, pair: Pair) -> Tally {
-    let mut t = tally;
-    let mut seq: u32 = 0;
-    while seq < BUDGET {
-        t = one_seq(t, a, pair, seq);
-        seq += 1;
-    }
-    t
-}
-
-// Cuts after which a record of one kind reads as one of another, or of the same, with bits more in its sequence; both
-// have payloads of this length.
-fn alike(kind: u8, as_kind: u8, len: usize, bits: u32, n: usize) -> Pair {
-    Pair {
-        kind,
-        len,
-        as_kind,
-        as_len: len,
-        bits,
-        n,
-    }
-}
-
-// Cuts after which the payload's length reads as 4 and not 0.
-fn longer() -> Pair {
-    Pair {
-        kind: 3,
-        len: 0,
-        as_kind: 3,
-        as_len: 4,
-        bits: 0,
-        n: 12,
-    }
-}
-
-// Header checks that agree: one bit of the sequence more, another kind (of 4 and of 2, which is not skipped), and a
-// longer payload.
-pub(crate) fn headers(a: u32) -> Tally {
-    let seqs = search(Tally::new(), a, alike(6, 6, 0, 0x100000, 12));
-    let kinds = search(seqs, a, alike(4, 6, 0, 0, 12));
-    let others = search(kinds, a, alike(2, 3, 8, 0, 12));
-    search(others, a, longer())
-}
-
-// Frame checks that agree too. Of the bits above the sequences tried, those are chosen with which the fewest bits of
-// the two checks differ: 9, 10 and 9 of 48.
-pub(crate) fn frames(a: u32) -> Tally {
-    let seqs = search(Tally::new(), a, alike(6, 6, 0, 0x70950000, 16));
-    let kinds = search(seqs, a, alike(4, 6, 0, 0xc52d0000, 16));
-    search(kinds, a, alike(2, 3, 8, 0x70ed0000, 24))
 }

@@ -5,97 +5,90 @@
 // where the seal is whole. make_stdout.py beside this counts both with no cut made.
 #![tactic(auto)]
 
-mod body;
-mod book;
 mod chance;
-mod cuts;
-mod front;
-mod slot;
+mod cut;
+mod device;
+mod item;
 mod tally;
-mod tear;
-mod trial;
 
-use book::Item;
 use chance::{frames, headers};
-use cuts::{Family, cuts};
-use printing::{decimal, text};
+use cut::{Cut, cuts};
+use item::Item;
+use std::io;
 use tally::Tally;
-use tear::Left;
+use waymaker_core::record::RecordKind;
 
-fn line(a: u32, family: &[u8], tally: Tally) {
-    text(b"a=");
-    decimal(a as u64);
-    text(family);
-    decimal(tally.tried as u64);
-    text(b" tried, ");
-    decimal(tally.opened as u64);
-    text(b" opened, ");
-    decimal(tally.differed as u64);
-    text(b" differed\n");
-}
-
-// An outcome with no payload. Its seal has 13 bits of 0, as that of the next one has, and the last one's 14: more would
-// take long, and fewer would be few sets.
-fn bare() -> Item {
+const ITEMS: [Item; 3] = [
+    // An outcome with no payload. Its seal has 13 bits of 0, as that of the next one has, and the last one's 14: more
+    // would take long, and fewer would be few sets.
     Item {
-        kind: 6,
+        kind: RecordKind::TIMER_FIRED,
         seq: 57,
         len: 0,
-    }
-}
-
-// An outcome with a payload, and padding where a is 2 or 4.
-fn padded() -> Item {
+    },
+    // An outcome with a payload, and padding where a is 2 or 4.
     Item {
-        kind: 3,
+        kind: RecordKind::EFFECT_COMPLETED,
         seq: 10,
         len: 3,
-    }
-}
-
-// A record that recovery does not skip.
-fn kept() -> Item {
+    },
+    // A record that recovery does not skip.
     Item {
-        kind: 7,
+        kind: RecordKind::RUN_COMPLETED,
         seq: 0,
         len: 4,
+    },
+];
+
+// All cuts of a family, of each item.
+fn all<F: Fn(&Cut, &mut Tally)>(a: u32, family: F) -> Tally
+    requires { F.IsAlwaysCallable family }
+{
+    let mut tally = Tally::default();
+    for item in ITEMS {
+        cuts(&mut tally, a, item, &family);
     }
+    tally
 }
 
-fn all_items(a: u32, family: Family) -> Tally {
-    let one = cuts(Tally::new(), a, bare(), family);
-    let two = cuts(one, a, padded(), family);
-    cuts(two, a, kept(), family)
+// Of bits lo and hi of a body, whether bit k is one of them, and whether it is within them.
+fn is_end(lo: usize, hi: usize, k: usize) -> bool {
+    k == lo || k == hi
 }
 
-fn explore(a: u32) {
-    line(a, b" slot subsets: ", all_items(a, Family::Slots));
-    line(
-        a,
-        b" body, one or two bits left old: ",
-        all_items(a, Family::Bodies(Left::Two)),
-    );
-    line(
-        a,
-        b" body, one or two bits programmed: ",
-        all_items(a, Family::Bodies(Left::AllButTwo)),
-    );
-    line(
-        a,
-        b" body, a run of bits left old: ",
-        all_items(a, Family::Bodies(Left::Run)),
-    );
-    line(
-        a,
-        b" body, a run of bits programmed: ",
-        all_items(a, Family::Bodies(Left::AllButRun)),
-    );
-    line(a, b" body, its header check agrees by chance: ", headers(a));
-    line(a, b" body, its frame check agrees by chance: ", frames(a));
+fn is_within(lo: usize, hi: usize, k: usize) -> bool {
+    (lo..=hi).contains(&k)
 }
 
-fn main() {
-    explore(1);
-    explore(2);
-    explore(4);
+fn explore(rt: &impl Print, a: u32) -> io::Result<()> {
+    let slots = all(a, |cut, tally| cut.slots(tally));
+    println!(rt; "a={a} slot subsets: {slots}")?;
+    let two = all(a, |cut, tally| cut.pairs(tally, is_end));
+    println!(rt; "a={a} body, one or two bits left old: {two}")?;
+    let all_but_two = all(
+        a,
+        |cut, tally| cut.pairs(tally, |lo, hi, k| !is_end(lo, hi, k)),
+    );
+    println!(rt; "a={a} body, one or two bits programmed: {all_but_two}")?;
+    let run = all(a, |cut, tally| cut.pairs(tally, is_within));
+    println!(rt; "a={a} body, a run of bits left old: {run}")?;
+    let all_but_run = all(
+        a,
+        |cut, tally| cut.pairs(tally, |lo, hi, k| !is_within(lo, hi, k)),
+    );
+    println!(rt; "a={a} body, a run of bits programmed: {all_but_run}")?;
+    println!(rt;
+        "a={a} body, its header check agrees by chance: {}",
+        headers(a)
+    )?;
+    println!(rt;
+        "a={a} body, its frame check agrees by chance: {}",
+        frames(a)
+    )
+}
+
+fn main(rt: HostRuntime) -> io::Result<()> {
+    explore(&rt, 1)?;
+    explore(&rt, 2)?;
+    explore(&rt, 4)
 }

@@ -1,43 +1,37 @@
 // How many cuts were tried, after how many of them the region opened, and how many differed from the book.
-use crate::trial::Came;
-use testing::tally::more;
+use std::fmt;
 
+// What a try came to.
 #[derive(Clone, Copy)]
-pub struct Tally {
-    pub tried: u32,
-    pub opened: u32,
-    pub differed: u32,
+pub(crate) enum Came {
+    Differed,
+    // As the book says; the region takes no more.
+    Refused,
+    // As the book says, before and after one more append.
+    Opened,
+}
+
+#[derive(Clone, Copy, Default)]
+pub(crate) struct Tally {
+    tried: u32,
+    opened: u32,
+    differed: u32,
 }
 
 impl Tally {
-    pub(crate) fn new() -> Self {
-        Tally {
-            tried: 0,
-            opened: 0,
-            differed: 0,
+    pub(crate) fn add(&mut self, came: Came) {
+        self.tried = self.tried.saturating_add(1);
+        match came {
+            Came::Differed => self.differed = self.differed.saturating_add(1),
+            Came::Refused => {}
+            Came::Opened => self.opened = self.opened.saturating_add(1),
         }
     }
+}
 
-    pub(crate) fn with(self, came: Came) -> Self {
-        let tried = more(self.tried);
-        let opened = self.opened;
-        let differed = self.differed;
-        match came {
-            Came::Opened => return Tally {
-                tried,
-                opened: more(opened),
-                differed,
-            },
-            Came::Refused => return Tally {
-                tried,
-                opened,
-                differed,
-            },
-            Came::Differed => return Tally {
-                tried,
-                opened,
-                differed: more(differed),
-            },
-        }
+impl fmt::Display for Tally {
+    fn fmt<W: fmt::Write>(&self, f: &mut fmt::Formatter<W>) -> fmt::Result {
+        write!(f, "{} tried, {} opened", self.tried, self.opened)?;
+        write!(f, ", {} differed", self.differed)
     }
 }

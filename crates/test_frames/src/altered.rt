@@ -1,96 +1,77 @@
 // Good frames, cut at every length below their own, and with every single bit turned over. Behind the tag and the
 // length: the frame's length (2), frame_len_of's length (4), the frame, for each cut or bit the refusal of decode (1),
 // then for each that of frame_len_of (1; 0 if there is none). Cut k leaves k bytes; bit b is bit b mod 8 of byte b / 8.
+ghost use Rattle.std.specs.Prelude.{◌<◌};
+
 use crate::decoding::frame_len_agrees;
-use decode::{Decoding, decode, frame_len_of};
-use testing::parts::{byte, first, le16, le32, rest};
+use decode::decode;
+use std::alloc::{AllocError, Global};
+use testing::parts::array;
 use testing::tally::Tally;
 
-// The longest frame whose bits are turned over.
-const MOST: usize = 64;
-
-fn frame_of(v: &[u8]) -> &[u8] {
-    first(rest(v, 9), le16(v, 3) as usize)
+// A frame, and what is answered where it is altered.
+#[derive(Clone, Copy)]
+struct Altered<'a> {
+    frame: &'a [u8],
+    len: usize,
+    by_decode: &'a [u8],
+    by_len: &'a [u8],
 }
 
-// The answers that follow the frame.
-fn answers_of(v: &[u8]) -> &[u8] {
-    rest(rest(v, 9), le16(v, 3) as usize)
+// None where the vector is cut short, or has not so many answers of each kind for each byte of the frame.
+fn read(mut vector: &[u8], ways: usize) -> Option<Altered<'_>>
+    requires { 0 < ways }
+{
+    let n = u16::from_le_bytes(array(&mut vector)?);
+    let len = u32::from_le_bytes(array(&mut vector)?) as usize;
+    let frame = vector.split_off(..usize::from(n))?;
+    let (by_decode, by_len) = vector.split_at(vector.len() / 2);
+    let whole = by_decode.len() / ways == frame.len();
+    whole.then_some(Altered {
+        frame,
+        len,
+        by_decode,
+        by_len,
+    })
 }
 
-// Whether decode refuses with this number; a frame decoded is no agreement.
-fn refused_with(decoding: Decoding, refusal: u8) -> bool {
-    match decoding {
-        Decoding::Frame(_) => return false,
-        Decoding::Refused(error) => return error.number() == refusal,
-    }
+// Whether bytes are refused by decode with this number, and answered by frame_len_of with that, or with this length.
+fn agrees(bytes: &[u8], by_decode: u8, by_len: u8, len: usize) -> bool {
+    decode(bytes).is_err_and(|error| error.number() == by_decode)
+        && frame_len_agrees(bytes, by_len, len)
 }
 
-// Whether altered bytes are answered with these refusals, or by frame_len_of with this length.
-fn bytes_agree(bytes: &[u8], by_decode: u8, by_len: u8, len: u64) -> bool {
-    if refused_with(decode(bytes), by_decode) {
-        return frame_len_agrees(frame_len_of(bytes), by_len, len);
+// Alters a copy of the frame in each way, so many for each byte.
+fn alter<F: Fn(&mut Vec<u8>, usize)>(
+    alloc: Global,
+    tally: &mut Tally,
+    vector: &[u8],
+    ways: usize,
+    change: F,
+) -> Result<(), AllocError>
+    requires some { 0 < ways }
+    requires callable { F.IsAlwaysCallable change }
+{
+    let Some(all) = read(vector, ways) else {
+        tally.add(false);
+        return Ok(());
+    };
+    for (k, (by_decode, by_len)) in all.by_decode.iter().zip(all.by_len).enumerate() {
+        let mut bytes = all.frame.to_vec(alloc)?;
+        change(&mut bytes, k);
+        tally.add(agrees(&bytes, *by_decode, *by_len, all.len));
     }
-    false
+    Ok(())
 }
 
-pub(crate) fn cuts(tally: Tally, v: &[u8]) -> Tally {
-    let frame = frame_of(v);
-    let answers = answers_of(v);
-    let len = le32(v, 5);
-    let n = answers.len() / 2;
-    // An answer of each kind for each cut.
-    if n != frame.len() {
-        return tally.with(false);
-    }
-    let by_decode = first(answers, n);
-    let by_len = rest(answers, n);
-    let mut t = tally;
-    let mut k: usize = 0;
-    while k < n {
-        t = t.with(bytes_agree(first(frame, k), byte(by_decode, k), byte(by_len, k), len));
-        k += 1;
-    }
-    t
+pub(crate) fn cuts(alloc: Global, tally: &mut Tally, vector: &[u8]) -> Result<(), AllocError> {
+    alter(alloc, tally, vector, 1, |bytes, k| bytes.truncate(k))
 }
 
-// The frame at the start of an array, with one bit turned over.
-fn flipped(frame: &[u8], bit: usize) -> [u8; MOST] {
-    let masks = [1u8, 2, 4, 8, 16, 32, 64, 128];
-    let mut a = [0u8; MOST];
-    let mut i: usize = 0;
-    while i < MOST {
-        a[i] = byte(frame, i);
-        i += 1;
-    }
-    let at = bit / 8;
-    if at < MOST {
-        a[at] = a[at] ^ masks[bit % 8];
-    }
-    a
-}
-
-fn flip_agrees(frame: &[u8], bit: usize, by_decode: u8, by_len: u8, len: u64) -> bool {
-    let a = flipped(frame, bit);
-    bytes_agree(first(&a, frame.len()), by_decode, by_len, len)
-}
-
-pub(crate) fn flips(tally: Tally, v: &[u8]) -> Tally {
-    let frame = first(frame_of(v), MOST);
-    let answers = answers_of(v);
-    let len = le32(v, 5);
-    let n = answers.len() / 2;
-    // An answer of each kind for each bit.
-    if n / 8 != frame.len() {
-        return tally.with(false);
-    }
-    let by_decode = first(answers, n);
-    let by_len = rest(answers, n);
-    let mut t = tally;
-    let mut bit: usize = 0;
-    while bit < n {
-        t = t.with(flip_agrees(frame, bit, byte(by_decode, bit), byte(by_len, bit), len));
-        bit += 1;
-    }
-    t
+pub(crate) fn flips(alloc: Global, tally: &mut Tally, vector: &[u8]) -> Result<(), AllocError> {
+    alter(alloc, tally, vector, 8, |bytes, bit| {
+        if let Some(byte) = bytes.get_mut(bit / 8) {
+            *byte ^= 1 << (bit % 8);
+        }
+    })
 }

@@ -3,190 +3,145 @@
 // (1), kind (1), format version (1), sequence (4; 0 where the record found has none), the kind's numbers in order
 // (three of 8; 0 where there is none), the record's part (place 4, length 4; 0, 0 where there is none), the payload
 // (4, 4), frame length (4), frame check (4).
-use decode::{Decoding, Frame, FrameLen, decode, frame_len_of};
+use decode::{Frame, decode, frame_len_of};
 use payload::Decoded;
-use testing::parts::{byte, le32, le64, rest};
-use waymaker_core::record::{Part, RecordRef};
+use testing::parts::array;
+use waymaker_core::error::DecodeError;
+use waymaker_core::id::EffectSeq;
+use waymaker_core::record::{Part, RecordKind, RecordRef};
 
 const NO_PART: Part = Part { place: 0, len: 0 };
 
-// What a record says, whatever its kind.
-#[derive(Clone, Copy)]
-pub struct Said {
-    pub unknown: u8,
-    pub kind: u8,
-    pub seq: u32,
-    pub first: u64,
-    pub second: u64,
-    pub third: u64,
-    pub part: Part,
+// What a frame says, whatever its kind.
+#[derive(Clone, Copy, PartialEq, Eq)]
+struct Said {
+    known: bool,
+    kind: RecordKind,
+    format_version: u8,
+    seq: EffectSeq,
+    numbers: [u64; 3],
+    part: Part,
+    payload: Part,
+    frame_len: usize,
+    frame_crc: u32,
 }
 
-// A known record without numbers.
-fn plain(kind: u8, seq: u32, part: Part) -> Said {
-    Said {
-        unknown: 0,
-        kind,
-        seq,
-        first: 0,
-        second: 0,
-        third: 0,
-        part,
-    }
-}
-
-fn numbered(kind: u8, seq: u32, first: u64, second: u64, third: u64, part: Part) -> Said {
-    Said {
-        unknown: 0,
-        kind,
-        seq,
-        first,
-        second,
-        third,
-        part,
-    }
-}
-
-fn run_started(kind: u16, version: u16, input: Part) -> Said {
-    numbered(1, 0, kind as u64, version as u64, 0, input)
-}
-
-fn effect_scheduled(seq: u32, kind: u16, len: u16, check: u32) -> Said {
-    numbered(2, seq, kind as u64, len as u64, check as u64, NO_PART)
-}
-
-fn said_by_record(record: RecordRef) -> Said {
+// The numbers of a record in their order.
+fn numbers_of(record: RecordRef) -> [u64; 3] {
     match record {
         RecordRef::RunStarted {
             workflow_kind,
             workflow_version,
-            input,
-        } => return run_started(workflow_kind, workflow_version, input),
+            ..
+        } => [workflow_kind.into(), workflow_version.into(), 0],
         RecordRef::EffectScheduled {
-            seq,
             kind,
             input_len,
             input_crc,
-        } => return effect_scheduled(seq.0, kind.0, input_len, input_crc),
-        RecordRef::EffectCompleted { seq, result } => return plain(3, seq.0, result),
-        RecordRef::EffectFailed { seq, error } => return plain(4, seq.0, error),
+            ..
+        } => [kind.0.into(), input_len.into(), input_crc.into()],
         RecordRef::TimerScheduled {
-            seq,
             clock_kind,
             deadline,
             armed_at,
-        } => return numbered(5, seq.0, clock_kind.0 as u64, deadline, armed_at, NO_PART),
-        RecordRef::TimerFired { seq } => return plain(6, seq.0, NO_PART),
-        RecordRef::RunCompleted { result } => return plain(7, 0, result),
-        RecordRef::RunFailed { error } => return plain(8, 0, error),
-        RecordRef::VersionMarker { seq, gate, version } => {
-            return numbered(9, seq.0, gate.0 as u64, version as u64, 0, NO_PART)
-        }
+            ..
+        } => [clock_kind.0.into(), deadline, armed_at],
+        RecordRef::VersionMarker { gate, version, .. } => [gate.0.into(), version.into(), 0],
+        _ => [0; 3],
     }
 }
 
-fn said_by(decoded: Decoded) -> Said {
-    match decoded {
-        Decoded::Record(record) => return said_by_record(record),
-        Decoded::UnknownKind(kind) => {
-            return Said {
-                unknown: 1,
-                kind: kind.0,
-                seq: 0,
-                first: 0,
-                second: 0,
-                third: 0,
-                part: NO_PART,
+// The part of the frame that the record's free bytes are.
+fn part_of(record: RecordRef) -> Part {
+    match record {
+        RecordRef::RunStarted { input, .. } => input,
+        RecordRef::EffectCompleted { result, .. } => result,
+        RecordRef::EffectFailed { error, .. } => error,
+        RecordRef::RunCompleted { result } => result,
+        RecordRef::RunFailed { error } => error,
+        _ => NO_PART,
+    }
+}
+
+impl From<Frame> for Said {
+    fn from(frame: Frame) -> Self {
+        let (known, kind, seq, numbers, part) = match frame.decoded {
+            Decoded::Record(record) => {
+                (
+                    true,
+                    record.kind(),
+                    record.seq(),
+                    numbers_of(record),
+                    part_of(record),
+                )
             }
+            Decoded::UnknownKind(kind) => (false, kind, EffectSeq::FIRST, [0; 3], NO_PART),
+        };
+        Said {
+            known,
+            kind,
+            format_version: frame.format_version,
+            seq,
+            numbers,
+            part,
+            payload: frame.payload,
+            frame_len: frame.frame_len,
+            frame_crc: frame.frame_crc,
         }
     }
 }
 
-// Whether the vector has this part at a place.
-fn part_agrees(v: &[u8], at: usize, part: Part) -> bool {
-    let t = rest(v, at);
-    if part.place as u64 != le32(t, 0) {
-        return false;
-    }
-    part.len as u64 == le32(t, 4)
+// A length or a place, which has 4 bytes in the vector.
+fn count(vector: &mut &[u8]) -> Option<usize> {
+    Some(u32::from_le_bytes(array(vector)?) as usize)
 }
 
-fn said_agrees(v: &[u8], said: Said) -> bool {
-    let part = said.part;
-    if said.unknown != byte(v, 9) {
-        return false;
-    }
-    if said.kind != byte(v, 10) {
-        return false;
-    }
-    if said.seq as u64 != le32(v, 12) {
-        return false;
-    }
-    if said.first != le64(v, 16) {
-        return false;
-    }
-    if said.second != le64(v, 24) {
-        return false;
-    }
-    if said.third != le64(v, 32) {
-        return false;
-    }
-    part_agrees(v, 40, part)
+fn part(vector: &mut &[u8]) -> Option<Part> {
+    let place = count(vector)?;
+    let len = count(vector)?;
+    Some(Part { place, len })
 }
 
-fn frame_agrees(v: &[u8], frame: Frame) -> bool {
-    let payload = frame.payload;
-    let decoded = frame.decoded;
-    if byte(v, 3) != 0 {
-        return false;
-    }
-    if frame.format_version != byte(v, 11) {
-        return false;
-    }
-    if frame.frame_len as u64 != le32(v, 56) {
-        return false;
-    }
-    if frame.frame_crc as u64 != le32(v, 60) {
-        return false;
-    }
-    if part_agrees(v, 48, payload) {
-        return said_agrees(v, said_by(decoded));
-    }
-    false
+fn number(vector: &mut &[u8]) -> Option<u64> {
+    Some(u64::from_le_bytes(array(vector)?))
 }
 
-fn decoding_agrees(v: &[u8], decoding: Decoding) -> bool {
-    match decoding {
-        Decoding::Frame(frame) => return frame_agrees(v, frame),
-        Decoding::Refused(error) => return error.number() == byte(v, 3),
-    }
+// What the vector wants the frame to say.
+fn wanted_by(vector: &mut &[u8]) -> Option<Said> {
+    let unknown = *vector.split_off_first()?;
+    let kind = *vector.split_off_first()?;
+    let format_version = *vector.split_off_first()?;
+    let seq = u32::from_le_bytes(array(vector)?);
+    let numbers = [number(vector)?, number(vector)?, number(vector)?];
+    Some(Said {
+        known: unknown == 0,
+        kind: RecordKind(kind),
+        format_version,
+        seq: EffectSeq(seq),
+        numbers,
+        part: part(vector)?,
+        payload: part(vector)?,
+        frame_len: count(vector)?,
+        frame_crc: u32::from_le_bytes(array(vector)?),
+    })
 }
 
-// Whether the refusal (0 if there is none) and the length are the ones wanted.
-pub(crate) fn frame_len_agrees(answer: FrameLen, refusal: u8, len: u64) -> bool {
-    match answer {
-        FrameLen::Bytes(n) => {
-            if refusal == 0 {
-                return n as u64 == len;
-            }
-            return false;
-        }
-        FrameLen::Refused(error) => return error.number() == refusal,
-    }
+// Whether frame_len_of gives this length, or the refusal with this number (0 if there is none).
+pub(crate) fn frame_len_agrees(bytes: &[u8], refusal: u8, len: usize) -> bool {
+    let wanted = if refusal == 0 { Ok(len) } else { Err(refusal) };
+    frame_len_of(bytes).map_err(DecodeError::number) == wanted
 }
 
-// The bytes to decode.
-fn bytes_of(v: &[u8]) -> &[u8] {
-    if byte(v, 3) == 0 {
-        return rest(v, 64);
-    }
-    rest(v, 9)
-}
-
-pub(crate) fn decode_agrees(v: &[u8]) -> bool {
-    let bytes = bytes_of(v);
-    if decoding_agrees(v, decode(bytes)) {
-        return frame_len_agrees(frame_len_of(bytes), byte(v, 4), le32(v, 5));
-    }
-    false
+// None where the vector is cut short.
+pub(crate) fn decode_agrees(mut vector: &[u8]) -> Option<bool> {
+    let refusal = *vector.split_off_first()?;
+    let len_refusal = *vector.split_off_first()?;
+    let len = count(&mut vector)?;
+    let wanted = if refusal == 0 {
+        Ok(wanted_by(&mut vector)?)
+    } else {
+        Err(refusal)
+    };
+    let found = decode(vector).map(Said::from).map_err(DecodeError::number);
+    Some(found == wanted && frame_len_agrees(vector, len_refusal, len))
 }

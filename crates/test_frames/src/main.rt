@@ -6,17 +6,14 @@
 mod altered;
 mod decoding;
 mod encoding;
-
-ghost use Rattle.std.specs.Prelude.{◌≤◌, ◌<◌, length};
+mod vectors;
 
 use altered::{cuts, flips};
 use decoding::decode_agrees;
 use encoding::encode_agrees;
-use printing::{decimal, text};
-use testing::parts::{byte, le16, rest};
-use testing::tally::{Tally, report};
-
-const STDIN_FILENO: i32 = 0;
+use std::io::{self, Read};
+use testing::tally::Tally;
+use vectors::Vectors;
 
 const ENCODE: u8 = 1;
 
@@ -26,70 +23,27 @@ const CUTS: u8 = 3;
 
 const FLIPS: u8 = 4;
 
-// Where the vector at a place ends; one that the input cuts short ends with the input.
-fn end_of(s: &[u8], at: usize) -> usize
-    requires { at < length s.now }
-    ensures { (at < result) × (result ≤ length s.now) }
-{
-    let left = s.len() - at;
-    let n = le16(rest(s, at), 1) as usize;
-    if left < 3 + n {
-        return s.len();
-    }
-    at + (3 + n)
-}
-
-// Whether the vector has the length that it says.
-fn is_whole(v: &[u8]) -> bool {
-    v.len() == 3 + le16(v, 1) as usize
-}
-
-// Runs one vector.
-fn ran(tally: Tally, v: &[u8]) -> Tally {
-    let tag = byte(v, 0);
-    if is_whole(v) {
-        if tag == ENCODE {
-            return tally.with(encode_agrees(v));
-        }
-        if tag == DECODE {
-            return tally.with(decode_agrees(v));
-        }
-        if tag == CUTS {
-            return cuts(tally, v);
-        }
-        if tag == FLIPS {
-            return flips(tally, v);
+// Runs all vectors and prints their tallies. A vector that is cut short does not agree.
+fn run(rt: &(impl Print + AllocGlobal), input: &[u8]) -> io::Result<()> {
+    let mut encode = Tally::default();
+    let mut decode = Tally::default();
+    let mut cut = Tally::default();
+    let mut flipped = Tally::default();
+    for (tag, vector) in Vectors(input) {
+        match tag {
+            ENCODE => encode.add(encode_agrees(vector).unwrap_or(false)),
+            DECODE => decode.add(decode_agrees(vector).unwrap_or(false)),
+            CUTS => cuts(rt.alloc(), &mut cut, vector)?,
+            FLIPS => flips(rt.alloc(), &mut flipped, vector)?,
+            _ => {}
         }
     }
-    tally.with(false)
+    println!(rt; "encode: {encode}\ndecode: {decode}\ncuts: {cut}\nflips: {flipped}")
 }
 
-// Runs the vectors of a tag.
-fn run(s: &[u8], tag: u8) -> Tally {
-    let mut tally = Tally::new();
-    let mut at: usize = 0;
-    while at < s.len() {
-        let end = end_of(s, at);
-        let v = &s[at..end];
-        if byte(v, 0) == tag {
-            tally = ran(tally, v);
-        }
-        at = end;
-    }
-    tally
-}
-
-fn run_all(s: &[u8]) {
-    report(b"encode: ", run(s, ENCODE));
-    report(b"decode: ", run(s, DECODE));
-    report(b"cuts: ", run(s, CUTS));
-    report(b"flips: ", run(s, FLIPS));
-}
-
-fn main() {
-    let mut input = [0u8; 131072];
-    let n = io::read_full(STDIN_FILENO, &mut input);
-    decimal(n as u64);
-    text(b" bytes of vectors\n");
-    run_all(&input[..n]);
+fn main(rt: HostRuntime) -> io::Result<()> {
+    let mut input = Vec::new(rt.alloc());
+    let n = rt.stdin().read_to_end(&mut input)?;
+    println!(rt; "{n} bytes of vectors")?;
+    run(&rt, &input)
 }

@@ -1,64 +1,57 @@
 // Four reads from a place, the widest first, so that one that finds too little is followed by narrower ones: by the
 // reader that keeps its payload, and by the cursor.
 use payload_reader::Reader;
-use reader::{Reader as Cursor, Taken};
+use reader::Reader as Cursor;
 
-#[derive(Clone, Copy)]
+#[derive(Clone, Copy, PartialEq)]
 pub(crate) struct Seen {
-    pub eight: Taken,
-    pub four: Taken,
-    pub two: Taken,
-    pub one: Taken,
-    // Where the reader stands, how many bytes are left, and the first of them.
-    pub at: usize,
+    // Each number, and where the reader stands then.
+    pub eight: (Option<u64>, usize),
+    pub four: (Option<u32>, usize),
+    pub two: (Option<u16>, usize),
+    pub one: (Option<u8>, usize),
+    // How many bytes are left, and the first of them.
     pub left: usize,
-    pub next: u8,
+    pub next: Option<u8>,
 }
 
-fn first(s: &[u8]) -> u8 {
-    if s.len() == 0 {
-        return 0;
-    }
-    s[0]
-}
-
-fn put(eight: Taken, four: Taken, two: Taken, one: Taken, at: usize, rest: &[u8]) -> Seen {
+pub(crate) fn by_reader(payload: &[u8], at: usize) -> Seen {
+    let mut r = Reader { payload, at };
+    let eight = (r.u64(), r.at);
+    let four = (r.u32(), r.at);
+    let two = (r.u16(), r.at);
+    let one = (r.u8(), r.at);
+    let rest = r.rest();
     Seen {
         eight,
         four,
         two,
         one,
-        at,
         left: rest.len(),
-        next: first(rest),
+        next: rest.first().copied(),
     }
 }
 
-pub(crate) fn by_reader(payload: &[u8], at: usize) -> Seen {
-    let mut r = Reader { payload, at };
-    let eight = r.u64();
-    let four = r.u32();
-    let two = r.u16();
-    let one = r.u8();
-    put(eight, four, two, one, r.at, r.rest())
-}
-
-fn past(t: Taken, r: Cursor) -> Cursor {
-    match t {
-        Taken::Value(_, next) => next,
-        Taken::End => r,
+// The number that was taken from a place, and where the cursor stands then.
+fn past<T>(taken: Option<(T, Cursor)>, at: usize) -> (Option<T>, usize) {
+    match taken {
+        Some((number, next)) => (Some(number), next.at),
+        None => (None, at),
     }
 }
 
 pub(crate) fn by_cursor(payload: &[u8], at: usize) -> Seen {
-    let a = Cursor { at };
-    let eight = a.u64(payload);
-    let b = past(eight, a);
-    let four = b.u32(payload);
-    let c = past(four, b);
-    let two = c.u16(payload);
-    let d = past(two, c);
-    let one = d.u8(payload);
-    let e = past(one, d);
-    put(eight, four, two, one, e.at, e.rest(payload))
+    let eight = past(Cursor { at }.u64(payload), at);
+    let four = past(Cursor { at: eight.1 }.u32(payload), eight.1);
+    let two = past(Cursor { at: four.1 }.u16(payload), four.1);
+    let one = past(Cursor { at: two.1 }.u8(payload), two.1);
+    let rest = Cursor { at: one.1 }.rest(payload);
+    Seen {
+        eight,
+        four,
+        two,
+        one,
+        left: rest.len(),
+        next: rest.first().copied(),
+    }
 }

@@ -1,48 +1,31 @@
 // The payload of a run started, by the reader that keeps it and by the cursor.
 use payload_reader::{Started, run_started};
-use printing::{number, text};
-use reader::{Reader as Cursor, Taken};
+use reader::Reader as Cursor;
+use std::io;
 
-pub(crate) fn show_started(payload: &[u8]) {
-    text(b"run started of");
-    number(payload.len() as u64);
-    text(b" bytes:");
-    let s = run_started(payload);
-    match s {
-        Started::Run(kind, version, input) => {
-            number(kind as u64);
-            number(version as u64);
-            number(input as u64);
-        }
-        Started::Short => text(b" short"),
-    }
-    text(b"\n");
+pub(crate) fn show_started(rt: &impl Print, payload: &[u8]) -> io::Result<()> {
+    let n = payload.len();
+    let Some(run) = run_started(payload) else {
+        return println!(rt; "run started of {n} bytes: short");
+    };
+    let Started {
+        workflow_kind,
+        workflow_version,
+        input_len,
+    } = run;
+    println!(rt; "run started of {n} bytes: {workflow_kind} {workflow_version} {input_len}")
 }
 
-fn is_run(s: Started, kind: u64, version: u64, input: usize) -> bool {
-    match s {
-        Started::Run(k, v, i) => (k as u64) == kind && (v as u64) == version && i == input,
-        Started::Short => false,
-    }
-}
-
-fn is_short(s: Started) -> bool {
-    match s {
-        Started::Run(_, _, _) => false,
-        Started::Short => true,
-    }
+fn by_cursor(payload: &[u8]) -> Option<Started> {
+    let (workflow_kind, next) = Cursor::new().u16(payload)?;
+    let (workflow_version, next) = next.u16(payload)?;
+    Some(Started {
+        workflow_kind,
+        workflow_version,
+        input_len: next.rest(payload).len(),
+    })
 }
 
 pub(crate) fn start_agrees(payload: &[u8]) -> bool {
-    let s = run_started(payload);
-    let first = Cursor::new().u16(payload);
-    let Taken::Value(kind, r) = first else {
-        return is_short(s);
-    };
-    let second = r.u16(payload);
-    let Taken::Value(version, r2) = second else {
-        return is_short(s);
-    };
-    let input = r2.rest(payload);
-    is_run(s, kind, version, input.len())
+    run_started(payload) == by_cursor(payload)
 }

@@ -26,141 +26,72 @@
 // Recovery and scan end with the first step that finds no record. Outputs and pages are 0xA5 throughout at first.
 #![tactic(auto)]
 
-mod appending;
-mod compared;
+mod answer;
+mod appends;
+mod cases;
 mod frames;
-mod records;
-mod tally;
-mod values;
 mod walks;
 
-use appending::append_agrees;
-use frames::{checks_agree, decode_agrees, encode_agrees};
-use tally::Tallies;
-use testing::parts::{byte, first, le16};
-use testing::tally::report;
-use walks::{recovery_agrees, scan_agrees};
-
-const STDIN_FILENO: i32 = 0;
+use appends::appends;
+use cases::Cases;
+use frames::{checks, decodes, encodes};
+use std::io::{self, Read};
+use testing::parts::array;
+use testing::tally::Tally;
+use walks::{recovers, scans};
 
 // Bytes enough for a case, and so for each region, page and output in one.
-pub(crate) const MOST: usize = 4096;
+const MOST: usize = 4096;
 
 // What fills a page and an output before.
-pub(crate) const FILL: u8 = 0xa5;
+const FILL: u8 = 0xa5;
 
-const CHECKS: u8 = 1;
-
-const ENCODE: u8 = 2;
-
-const DECODE: u8 = 3;
-
-const RECOVERY: u8 = 4;
-
-const SCAN: u8 = 5;
-
-const APPEND: u8 = 6;
-
-// The tallies after a case, and whether the input is at its end.
-#[derive(Clone, Copy)]
-pub struct Turn {
-    pub tallies: Tallies,
-    pub over: bool,
+// A unit or a length, which has 2 bytes.
+fn unit(case: &mut &[u8]) -> Option<u16> {
+    Some(u16::from_le_bytes(array(case)?))
 }
 
-fn agrees(v: &[u8]) -> bool {
-    let op = byte(v, 0);
-    if op == CHECKS {
-        return checks_agree(v);
-    }
-    if op == ENCODE {
-        return encode_agrees(v);
-    }
-    if op == DECODE {
-        return decode_agrees(v);
-    }
-    if op == RECOVERY {
-        return recovery_agrees(v);
-    }
-    if op == SCAN {
-        return scan_agrees(v);
-    }
-    if op == APPEND {
-        return append_agrees(v);
-    }
-    false
+// How the answers of each op agree, and those of no op.
+#[derive(Clone, Copy, Default)]
+struct Tallies {
+    checks: Tally,
+    encode: Tally,
+    decode: Tally,
+    recovery: Tally,
+    scan: Tally,
+    append: Tally,
+    other: Tally,
 }
 
-// Reads n bytes, or as many as there are; none where they do not fit.
-fn read_case(n: usize, into: &mut [u8]) -> usize {
-    if into.len() < n {
-        return 0;
-    }
-    io::read_full(STDIN_FILENO, &mut into[0..n])
-}
-
-// Runs a case. One that the input or the buffer cuts short is the last.
-fn ran(tallies: Tallies, v: &[u8], len: usize) -> Turn {
-    let op = byte(v, 0);
-    if v.len() < len {
-        return Turn {
-            tallies: tallies.with(op, false),
-            over: true,
-        };
-    }
-    Turn {
-        tallies: tallies.with(op, agrees(v)),
-        over: false,
-    }
-}
-
-fn next_case(tallies: Tallies, len: usize) -> Turn {
-    let mut case = [0u8; MOST];
-    let n = read_case(len, &mut case);
-    ran(tallies, first(&case, n), len)
-}
-
-fn next(tallies: Tallies) -> Turn {
-    let mut head = [0u8; 2];
-    let n = io::read_full(STDIN_FILENO, &mut head);
-    if n == 0 {
-        return Turn {
-            tallies,
-            over: true,
-        };
-    }
-    if n < 2 {
-        return Turn {
-            tallies: tallies.with(0, false),
-            over: true,
-        };
-    }
-    next_case(tallies, le16(&head, 0) as usize)
-}
-
-// Runs all cases; there are fewer than the count here.
-fn run() -> Tallies {
-    let mut tallies = Tallies::new();
-    let mut left: u32 = 4294967295;
-    while 0 < left {
-        let turn = next(tallies);
-        tallies = turn.tallies;
-        if turn.over {
-            return tallies;
+impl Tallies {
+    fn add(&mut self, case: &[u8]) {
+        let (op, asked) = case
+            .split_first()
+            .map_or((0, case), |(op, asked)| (*op, asked));
+        match op {
+            1 => self.checks.add(checks(asked).is_some()),
+            2 => self.encode.add(encodes(asked).is_some()),
+            3 => self.decode.add(decodes(asked).is_some()),
+            4 => self.recovery.add(recovers(asked).is_some()),
+            5 => self.scan.add(scans(asked).is_some()),
+            6 => self.append.add(appends(asked).is_some()),
+            _ => self.other.add(false),
         }
-        left -= 1;
     }
-    tallies
 }
 
-fn main() {
-    let tallies = run();
-    let of = tallies.of;
-    report(b"checks: ", of[1]);
-    report(b"encode: ", of[2]);
-    report(b"decode: ", of[3]);
-    report(b"recovery: ", of[4]);
-    report(b"scan: ", of[5]);
-    report(b"append: ", of[6]);
-    report(b"other: ", of[0]);
+fn main(rt: HostRuntime) -> io::Result<()> {
+    let mut input = Vec::new(rt.alloc());
+    rt.stdin().read_to_end(&mut input)?;
+    let mut tallies = Tallies::default();
+    for case in Cases(&input) {
+        tallies.add(case);
+    }
+    println!(rt; "checks: {}", tallies.checks)?;
+    println!(rt; "encode: {}", tallies.encode)?;
+    println!(rt; "decode: {}", tallies.decode)?;
+    println!(rt; "recovery: {}", tallies.recovery)?;
+    println!(rt; "scan: {}", tallies.scan)?;
+    println!(rt; "append: {}", tallies.append)?;
+    println!(rt; "other: {}", tallies.other)
 }

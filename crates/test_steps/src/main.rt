@@ -1,152 +1,150 @@
 // Runs recovery over small regions and prints each step: a region of three records, the second never sealed; the same
 // with one bit of that slot programmed; a page that is too small; and the bytes of document 01 that it does not star.
+// Then what find and open answer there, and what a payload that is too long gives.
 #![tactic(auto)]
 
-mod answers;
-mod out;
+mod shown;
 
-use answers::{answers, show_length};
 use encode::encode;
-use out::refused;
-use printing::{number, text};
-use recovery::next::{Answer, Ending, Found, Recovery, Stepped};
+use find::find;
+use frame::lengths::encoded_len_for;
+use journal::Journal;
+use recovery::next::Recovery;
+use shown::{Refused, Step};
+use std::io;
 use storage::geometry::Geometry;
 use waymaker_core::id::EffectSeq;
 use waymaker_core::record::{Record, RecordKind};
 
-fn show_ending(e: Ending) {
-    match e {
-        Ending::Open => text(b"; open"),
-        Ending::Clean => text(b"; clean"),
-        Ending::Damaged => text(b"; damaged"),
-        Ending::Incomplete => text(b"; incomplete"),
-        Ending::Unsealed => text(b"; unsealed"),
-    }
-}
-
-fn show_found(found: Found) {
-    let record = found.record;
-    let said = record.record;
-    let part = record.payload;
-    let kind = said.kind();
-    text(b"found at");
-    number(found.offset as u64);
-    text(b", kind");
-    number(kind.0 as u64);
-    text(b", payload");
-    number(part.place as u64);
-    number(part.len as u64);
-    text(b", length");
-    number(record.len as u64);
-}
-
-fn show(x: Stepped) {
-    let answer = x.answer;
-    let state = x.state;
-    let ending = state.ending;
-    match answer {
-        Answer::Found(found) => show_found(found),
-        Answer::Ended => text(b"ended"),
-        Answer::Refused(refusal) => refused(refusal),
-    }
-    show_ending(ending);
-    text(b" at");
-    number(state.offset as u64);
-    text(b"\n");
-}
-
-fn one(state: Recovery, region: &[u8], page: &mut [u8]) -> Recovery {
-    let x = state.next(region, page);
-    show(x);
-    x.state
-}
-
 // Takes four steps from offset 0 and shows each.
-fn steps(geometry: Geometry, region: &[u8], page: &mut [u8]) {
-    let s1 = one(Recovery::new(geometry), region, page);
-    let s2 = one(s1, region, page);
-    let s3 = one(s2, region, page);
-    one(s3, region, page);
+fn steps(rt: &impl Print, geometry: Geometry, region: &[u8], page: &mut [u8]) -> io::Result<()> {
+    let mut state = Recovery::new(geometry);
+    for _ in 0..4 {
+        let step = state.next(region, page);
+        rt.println(Step(step))?;
+        state = step.state;
+    }
+    Ok(())
 }
 
-fn units(bytes: u32, program_size: u32, read_size: u32) -> Geometry {
-    Geometry {
-        bytes,
-        program_size,
-        read_size,
+// Three sequences, of which the last is that of the records of a run.
+fn finds(rt: &impl Print, a: usize, r: usize, region: &[u8], page: &mut [u8]) -> io::Result<()> {
+    for seq in [7, 8, 0] {
+        match find(EffectSeq(seq), a, r, region, page) {
+            Ok(Some(offset)) => println!(rt; "find {seq}: at {offset}")?,
+            Ok(None) => println!(rt; "find {seq}: nowhere")?,
+            Err(refusal) => println!(rt; "find {seq}: {}", Refused(refusal))?,
+        }
+    }
+    Ok(())
+}
+
+fn opens(rt: &impl Print, a: usize, r: usize, region: &[u8], page: &mut [u8]) -> io::Result<()> {
+    match Journal::open(a, r, region, page) {
+        Ok(journal) => println!(rt; "open: ready at {}", journal.offset),
+        Err(refusal) => println!(rt; "open: {}", Refused(refusal)),
     }
 }
 
-// A record at a place of the region.
-fn put(region: &mut [u8], at: usize, record: Record, free: &[u8]) {
-    if at <= region.len() {
-        encode(record, free, 4, &mut region[at..]);
+fn show(rt: &impl Print, geometry: Geometry, region: &[u8], page: &mut [u8]) -> io::Result<()> {
+    let a = geometry.program_size as usize;
+    let r = geometry.read_size as usize;
+    steps(rt, geometry, region, page)?;
+    finds(rt, a, r, region, page)?;
+    opens(rt, a, r, region, page)
+}
+
+// A record at a place of the region. One that encode refused would not be found.
+fn put(region: &mut [u8; 96], at: usize, record: Record, free: &[u8]) {
+    if let Some(out) = region.get_mut(at..) {
+        let _ = encode(record, free, 4, out);
     }
 }
 
 // Three records of 20, 24 and 20 bytes; the second one's slot is at 40.
-fn fill(region: &mut [u8]) {
-    put(
-        region,
-        0,
-        Record::new(RecordKind::TIMER_FIRED, EffectSeq(7)),
-        b"",
-    );
-    put(
-        region,
-        20,
-        Record::new(RecordKind::EFFECT_COMPLETED, EffectSeq(8)),
-        b"abc",
-    );
-    put(
-        region,
-        44,
-        Record::new(RecordKind::RUN_COMPLETED, EffectSeq(0)),
-        b"",
-    );
+fn fill(region: &mut [u8; 96]) {
+    let fired = Record::new(RecordKind::TIMER_FIRED, EffectSeq(7));
+    let completed = Record::new(RecordKind::EFFECT_COMPLETED, EffectSeq(8));
+    let run_completed = Record::new(RecordKind::RUN_COMPLETED, EffectSeq(0));
+    put(region, 0, fired, b"");
+    put(region, 20, completed, b"abc");
+    put(region, 44, run_completed, b"");
 }
 
-// The four bytes of the second slot.
-fn slot(region: &mut [u8; 96], first: u8) {
-    region[40] = first;
-    region[41] = 255;
-    region[42] = 255;
-    region[43] = 255;
+// The four bytes of the second slot, of which one is given.
+fn set_slot(region: &mut [u8; 96], first: u8) {
+    region[40..44].copy_from_slice(&[first, 255, 255, 255]);
 }
 
-fn three(region: &mut [u8; 96], page: &mut [u8; 96]) {
-    fill(region);
-    text(b"three records\n");
-    steps(units(96, 4, 1), region, page);
-    answers(4, 1, region, page);
-    slot(region, 255);
-    text(b"the second never sealed\n");
-    steps(units(96, 4, 1), region, page);
-    answers(4, 1, region, page);
-    slot(region, 127);
-    text(b"one bit of its slot programmed\n");
-    steps(units(96, 4, 1), region, page);
-    answers(4, 1, region, page);
-}
-
-fn limits(region: &mut [u8; 40], page: &mut [u8; 15]) {
-    text(b"r=16, N=40, page 15\n");
-    steps(units(40, 4, 16), region, page);
-    answers(4, 16, region, page);
-    text(b"a=3\n");
-    steps(units(40, 3, 1), region, page);
-    answers(3, 1, region, page);
-    text(b"N=41 held, 40 given\n");
-    steps(units(41, 4, 1), region, page);
-}
-
-fn main() {
+fn three(rt: &impl Print) -> io::Result<()> {
+    let geometry = Geometry {
+        bytes: 96,
+        program_size: 4,
+        read_size: 1,
+    };
     let mut region = [255u8; 96];
     let mut page = [0u8; 96];
-    three(&mut region, &mut page);
-    let mut blank = [255u8; 40];
-    let mut little = [0u8; 15];
-    limits(&mut blank, &mut little);
-    show_length(65535);
-    show_length(65536);
+    fill(&mut region);
+    rt.println("three records")?;
+    show(rt, geometry, &region, &mut page)?;
+    set_slot(&mut region, 255);
+    rt.println("the second never sealed")?;
+    show(rt, geometry, &region, &mut page)?;
+    set_slot(&mut region, 127);
+    rt.println("one bit of its slot programmed")?;
+    show(rt, geometry, &region, &mut page)
+}
+
+fn limits(rt: &impl Print) -> io::Result<()> {
+    let geometry = Geometry {
+        bytes: 40,
+        program_size: 4,
+        read_size: 1,
+    };
+    let region = [255u8; 40];
+    let mut page = [0u8; 15];
+    rt.println("r=16, N=40, page 15")?;
+    show(
+        rt,
+        Geometry {
+            read_size: 16,
+            ..geometry
+        },
+        &region,
+        &mut page,
+    )?;
+    rt.println("a=3")?;
+    show(
+        rt,
+        Geometry {
+            program_size: 3,
+            ..geometry
+        },
+        &region,
+        &mut page,
+    )?;
+    rt.println("N=41 held, 40 given")?;
+    steps(
+        rt,
+        Geometry {
+            bytes: 41,
+            ..geometry
+        },
+        &region,
+        &mut page,
+    )
+}
+
+fn length(rt: &impl Print, payload_bytes: usize) -> io::Result<()> {
+    match encoded_len_for(payload_bytes, 256) {
+        Ok(n) => println!(rt; "P = {payload_bytes}: length {n}"),
+        Err(refusal) => println!(rt; "P = {payload_bytes}: {}", Refused(refusal)),
+    }
+}
+
+fn main(rt: HostRuntime) -> io::Result<()> {
+    three(&rt)?;
+    limits(&rt)?;
+    length(&rt, 65535)?;
+    length(&rt, 65536)
 }

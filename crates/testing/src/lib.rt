@@ -1,5 +1,6 @@
-// What the test programs share: parts of bytes and the numbers in them, and a tally of answers.
+// What the test programs share: numbers, bytes and records taken off the front of a slice, and a tally of answers.
 #![tactic(auto)]
 
 pub mod parts;
+pub mod records;
 pub mod tally;

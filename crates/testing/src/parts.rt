@@ -1,60 +1,30 @@
-// Parts of bytes, and the numbers that stand in them. Past the end there are zeros and empty parts.
-ghost use Rattle.std.specs.Prelude.{◌≡◌, ◌<◌, get_or, take, drop};
-ghost use Rattle.frame.specs.Bytes.{value_at};
-
-fn wide(b: u8) -> u64
-    ensures { (result ≡ b) × (result < 256) }
-{
-    b as u64
-}
-
-pub fn byte(v: &[u8], at: usize) -> u8
-    ensures { result ≡ get_or v.now at 0 }
-{
-    if at < v.len() {
-        return v[at];
-    }
-    0
-}
-
-// All from a place on.
-pub fn rest(v: &[u8], at: usize) -> &[u8]
-    ensures { result.now ≡ drop at v.now }
-{
-    if at < v.len() {
-        return &v[at..];
-    }
-    &v[..0]
-}
+// Parts of bytes: the first of them, and those that a number is made of.
+ghost use Rattle.std.specs.Prelude.{◌≡◌, ◌<◌, ◌++◌, MatchOption, length, take, drop};
+ghost use Rattle.std.specs.Int.{from_le_bytes, w16};
 
 // The first n bytes, or all if there are fewer.
 pub fn first(v: &[u8], n: usize) -> &[u8]
     ensures { result.now ≡ take n v.now }
 {
-    if n < v.len() {
-        return &v[0..n];
-    }
-    &v[..]
+    &v[..n.min(v.len())]
 }
 
-// The numbers at a place, least significant byte first.
-pub fn le16(v: &[u8], at: usize) -> u64
-    ensures { (result ≡ value_at 2 v.now at) × (result < 65536) }
+// The next N bytes, taken off the front. Where there are fewer nothing is taken.
+pub fn array<const N: usize>(left: &mut &[u8]) -> Option<[u8; N]>
+    ensures { MatchOption result ((length left.old.now < N) × (left.new.now ≡ left.old.now)) (λ front. (front ≡ take N left.old.now) × (left.new.now ≡ drop N left.old.now)) }
 {
-    let t = rest(v, at);
-    wide(byte(t, 0)) + wide(byte(t, 1)) * 256
+    let (front, rest) = left.split_first_chunk()?;
+    *left = rest;
+    Some(*front)
 }
 
-pub fn le32(v: &[u8], at: usize) -> u64
-    ensures { (result ≡ value_at 4 v.now at) × (result < 4294967296) }
+// The next bytes with their number before them, which has two bytes; none where fewer are left than it says.
+pub fn counted<'a>(left: &mut &'a [u8]) -> Option<&'a [u8]>
+    ensures { MatchOption result (left.new.now ≡ left.old.now) (λ front. (left.old.now ≡ take 2 left.old.now ++ front.now ++ left.new.now) × (length front.now ≡ from_le_bytes w16 (take 2 left.old.now))) }
 {
-    let t = rest(v, at);
-    le16(t, 0) + le16(t, 2) * 65536
-}
-
-pub fn le64(v: &[u8], at: usize) -> u64
-    ensures { result ≡ value_at 8 v.now at }
-{
-    let t = rest(v, at);
-    le32(t, 0) + le32(t, 4) * 4294967296
+    let mut behind = *left;
+    let n = u16::from_le_bytes(array(&mut behind)?);
+    let front = behind.split_off(..usize::from(n))?;
+    *left = behind;
+    Some(front)
 }

@@ -1,75 +1,37 @@
 // How many answers agree, how many do not, and the number of the first that does not, counted from 0.
 ghost use Rattle.std.specs.Prelude.{◌≡◌};
-ghost use Rattle.testing.specs.Tally.{one_more, none, with_one};
+ghost use Rattle.testing.specs.Tally.{with_one};
 
-use printing::{decimal, text};
+use std::fmt;
 
-#[derive(Clone, Copy)]
+#[derive(Clone, Copy, Default)]
 pub struct Tally {
     pub good: u32,
     pub bad: u32,
-    pub first: u32,
-}
-
-// One more, as far as there is one.
-pub fn more(n: u32) -> u32
-    ensures { result ≡ one_more n }
-{
-    if n < 4294967295 {
-        return n + 1;
-    }
-    n
+    pub first: Option<u32>,
 }
 
 impl Tally {
-    pub fn new() -> Self
-        ensures { result ≡ none }
+    // One answer more, as far as a count goes.
+    #[tactic(auto, unfolding(crate::specs::Tally::with_one))]
+    pub fn add(&mut self, agrees: bool)
+        ensures { self.new ≡ with_one self.old agrees }
     {
-        Tally {
-            good: 0,
-            bad: 0,
-            first: 0,
-        }
-    }
-
-    pub fn with(self, agrees: bool) -> Self
-        ensures { result ≡ with_one self agrees }
-    {
-        let good = self.good;
-        let bad = self.bad;
-        let first = self.first;
         if agrees {
-            return Tally {
-                good: more(good),
-                bad,
-                first,
-            };
-        }
-        if bad == 0 {
-            return Tally {
-                good,
-                bad: 1,
-                first: good,
-            };
-        }
-        Tally {
-            good,
-            bad: more(bad),
-            first,
+            self.good = self.good.saturating_add(1);
+        } else {
+            self.bad = self.bad.saturating_add(1);
+            self.first = self.first.or(Some(self.good));
         }
     }
 }
 
-// Says how many agree, how many do not, and which does not first.
-pub fn report(name: &[u8], tally: Tally) {
-    text(name);
-    decimal(tally.good as u64);
-    text(b" agree, ");
-    decimal(tally.bad as u64);
-    text(b" do not");
-    if 0 < tally.bad {
-        text(b", the first is number ");
-        decimal(tally.first as u64);
+impl fmt::Display for Tally {
+    fn fmt<W: fmt::Write>(&self, f: &mut fmt::Formatter<W>) -> fmt::Result {
+        write!(f, "{} agree, {} do not", self.good, self.bad)?;
+        if let Some(first) = self.first {
+            write!(f, ", the first is number {first}")?;
+        }
+        Ok(())
     }
-    text(b"\n");
 }

@@ -1,16 +1,17 @@
--- Laws of decimal digits: those that `io` makes are the definition's, and how many there are.
+-- Laws of decimal digits: those that `{}` writes are the definition's, and how many there are.
 -- Assumes nothing.
-use mathlib.Core.Path.{◌≡◌, refl, sym, ap, ap₂, ◌∙◌}
+use mathlib.Core.Path.{◌≡◌, refl, sym}
 use mathlib.Core.Bool.{Bool, true, false, cond}
 use mathlib.Core.List.{List, [], ◌∷◌, ◌++◌}
-use Prim.Native.Nat.{ℕ, zero, suc, ◌+◌, ◌-◌, ◌/◌, ◌%◌, ◌^◌, ◌<◌, ◌≤◌}
-use native.Mathlib.Nat.{pow-suc, one-le-pow, pow-le-pow_right}
+use Prim.Native.Nat.{ℕ, zero, suc, ◌+◌, ◌/◌, ◌%◌, ◌^◌, ◌<◌, ◌≤◌}
+use native.Mathlib.Nat.{pow-suc}
 use native.Mathlib.Omega.{arith}
-use lib.Dec.{ltb, leb}
+use lib.Dec.{ltb}
 use lib.ListN.{length, length-append}
-use borrow.Author.Tests.{lt-ltb, le-ltb, ltb-true, ltb-false, leb-true, leb-false}
-use Rattle.io.specs.Digits.{hex_digit_ascii, last_digits, IsDigitCount}
-use Rattle.text.specs.Text.{digits_of, decimal, Puts}
+use borrow.Author.Tests.{lt-ltb, le-ltb, ltb-true, ltb-false}
+use Rattle.std.specs.Fmt.{decimal as written}
+use Rattle.std.proofs.lemmas.Fmt.{decimal_by_steps}
+use Rattle.text.specs.Text.{digits_of, decimal}
 
 digits_few : (k n : ℕ) → n < 10 → digits_of (suc k) n ≡ (48 + n) ∷ []
 unfolding digits_of
@@ -20,47 +21,18 @@ digits_more : (k n : ℕ) → 10 ≤ n → digits_of (suc k) n ≡ digits_of k (
 unfolding digits_of
 digits_more k n h = rw (le-ltb n 10 h)
 
-glyph_digit : (n : ℕ) → hex_digit_ascii (n % 10) ≡ 48 + n % 10
-glyph_digit n = rw (lt-ltb (n % 10) 10 (omega arith))
+-- the digits that `{}` writes are the definition's, at any k that hold n
+digits_are : (n : ℕ) → n < 2 ^ 64 → (k : ℕ) → n < 10 ^ suc k → written n ≡ digits_of (suc k) n
+digits_are n h =
+    decimal_by_steps (λ m s. (k : ℕ) → m < 10 ^ suc k → s ≡ digits_of (suc k) m) (λ m few k _. sym (digits_few k m few)) (λ m s more ih k l. next m s more ih k l) n h where
+      next : (m : ℕ) (s : List ℕ) → 10 ≤ m → ((k : ℕ) → m / 10 < 10 ^ suc k → s ≡ digits_of (suc k) (m / 10))
+          → (k : ℕ) → m < 10 ^ suc k → s ++ ((48 + m % 10) ∷ []) ≡ digits_of (suc k) m
+      next m s more ih zero l = absurd (omega (arith, l, pow-suc 10 0))
+      next m s more ih (suc k) l = rw (digits_more (suc k) m more, ih k (omega (arith, l, pow-suc 10 (suc k))))
 
--- the fewest digits that hold n are its decimal digits
-digits_are : (f k n : ℕ) → k ≤ f → n < 10 ^ suc k → (0 < k → 10 ^ k ≤ n) → last_digits 10 (suc k) n ≡ digits_of (suc f) n
-digits_are f zero n l h p =
-    let small : n < 10 = omega (arith, h, pow-suc 10 0) in
-    let same : n % 10 ≡ n = omega arith in
-    ap (λ x. x ∷ []) (glyph_digit n ∙ ap (λ x. 48 + x) same) ∙ sym (digits_few f n small)
-digits_are zero (suc k) n l h p = absurd (omega arith)
-digits_are (suc f) (suc k) n l h p =
-    let one : 1 ≤ 10 ^ k = one-le-pow k 10 (omega arith) in
-    let least : 10 ^ suc k ≤ n = p (omega arith) in
-    let big : 10 ≤ n = omega (arith, pow-suc 10 k) in
-    ap₂ (λ x y. x ++ (y ∷ []))
-    (digits_are f k (n / 10) (omega arith) (omega (arith, h, pow-suc 10 (suc k))) (λ q. omega (arith, pow-suc 10 k)))
-    (glyph_digit n)
-    ∙ sym (digits_more (suc f) n big)
-
--- a number of 64 bits has 20 digits at most
-fewest_most : (n k : ℕ) → n < 18446744073709551616 → IsDigitCount 10 1 n k → k ≤ 20
-fewest_most n k h p = go (leb k 20) refl where
-  go : (t : Bool) → leb k 20 ≡ t → k ≤ 20
-  go true e = leb-true k 20 e
-  go false e =
-      let more : 20 < k = leb-false k 20 e in
-      let least : 10 ^ (k - 1) ≤ n = p.2 (omega arith) in
-      let power : 10 ^ 20 ≤ 10 ^ (k - 1) = pow-le-pow_right {n = 10} (omega arith) {i = 20} {j = k - 1} (omega arith) in
-      absurd (omega arith)
-
--- so the digits that `io` makes of it are its decimal digits
-pub digits_decimal : (n k : ℕ) → n < 18446744073709551616 → IsDigitCount 10 1 n k → last_digits 10 k n ≡ decimal n
+pub decimal_are : (n : ℕ) → n < 2 ^ 64 → written n ≡ decimal n
 unfolding decimal
-digits_decimal n zero l p = absurd (omega (arith, p.0))
-digits_decimal n (suc k) l p = digits_are 19 k n (omega (arith, fewest_most n (suc k) l p)) p.1 (λ q. go (p.2 (omega arith))) where
-  go : 10 ^ (suc k - 1) ≤ n → 10 ^ k ≤ n
-  go h = let e : suc k - 1 ≡ k = omega arith in rw e at h
-
-pub decimal_put : (out out' s : List ℕ) (at n k r : ℕ) → n < 18446744073709551616 → Puts out at s r out' → s ≡ last_digits 10 k n → IsDigitCount 10 1 n k
-    → Puts out at (decimal n) r out'
-decimal_put out out' s at n k r l q e p = rw (e, digits_decimal n k l p) at q
+decimal_are n h = digits_are n h 19 (omega arith)
 
 -- a property of digits, shown where there is one digit and where there are more
 pub digits_case : (P : List ℕ → Type 0) (k n : ℕ) → (n < 10 → P ((48 + n) ∷ [])) → (10 ≤ n → P (digits_of k (n / 10) ++ ((48 + n % 10) ∷ [])))

@@ -1,49 +1,41 @@
--- Laws of the search for a byte: one turn of the loop, and its ends.
+-- Laws of the search for a byte.
 -- Assumes nothing.
-use mathlib.Core.Path.{◌≡◌, sym, ap, ◌∙◌}
-use mathlib.Core.Bool.{cond}
+use mathlib.Core.Path.{◌≡◌, refl}
+use mathlib.Core.Bool.{Bool, true, false, cond, not}
 use mathlib.Core.List.{List, [], ◌∷◌}
-use Prim.Native.Nat.{ℕ, suc, ◌+◌, ◌<◌, ◌≤◌}
-use native.Mathlib.Numerals.{add-one}
-use native.Mathlib.Nat.{zero-add}
+use Prim.Native.Nat.{ℕ, suc, ◌+◌, ◌-◌, ◌<◌, ◌≤◌}
 use native.Mathlib.Omega.{arith}
-use lib.Dec.{eqb}
-use lib.ListN.{length, get_or, drop, drop_of_length-le}
-use lib.Seq.{drop-cons, length-take-le}
-use borrow.Author.Tests.{eq-eqb, ne_eqb}
+use lib.Dec.{eqb, ltb}
+use lib.ListN.{length, take, drop, length-drop}
+use lib.Seq.{take_all}
+use borrow.Author.Tests.{ltb-true, ltb-false}
+use Rattle.std.proofs.Common.{Option, Some, None}
+use Rattle.std.specs.Option.{MatchOption}
+use Rattle.std.specs.List.{position, position_or_len}
 use Rattle.waymaker_core.proofs.Choice.{cond_case}
-use Rattle.text.specs.Text.{place_of, Place}
+use Rattle.text.specs.Text.{place_of}
 
 pub place_within : (b : ℕ) (s : List ℕ) → place_of b s ≤ length s
 unfolding place_of
 place_within b [] = omega arith
 place_within b (x ∷ s) = cond_case (λ n. n ≤ suc (length s)) (eqb x b) (λ _. omega arith) (λ _. omega (arith, place_within b s))
 
--- the loop: what is left of the search answers for all of it
-pub record Seeking (b : ℕ) (s : List ℕ) (i : ℕ) : Type 0 where
-  pub within : i ≤ length s
-  pub same : i + place_of b (drop i s) ≡ place_of b s
-
-place_cons : (b : ℕ) (s : List ℕ) (i : ℕ) → i < length s
-    → place_of b (drop i s) ≡ cond (eqb (get_or s i 0) b) 0 (suc (place_of b (drop (suc i) s)))
+test_place : (b : ℕ) (s : List ℕ) → position_or_len (λ x. eqb x b) s ≡ place_of b s
 unfolding place_of
-place_cons b s i h = rw (drop-cons s i 0)
+test_place b [] = refl
+test_place b (x ∷ s) = go (eqb x b) (test_place b s) where
+  go : (t : Bool) → position_or_len (λ x. eqb x b) s ≡ place_of b s → cond (not t) (1 + position_or_len (λ x. eqb x b) s) 0 ≡ cond t 0 (suc (place_of b s))
+  go true e = refl
+  go false e = omega (arith, e)
 
-placed : (b : ℕ) (s : List ℕ) (i : ℕ) → Seeking b s i → place_of b (drop i s) ≡ 0 → Place b s i
-placed b s i j e = record { all = omega (arith, j.same, e); within = j.within; part = sym (length-take-le i s j.within) }
+-- what the search answered: the place, or that there is none
+pub found_at : (b : ℕ) (s : List ℕ) (r : Option ℕ) → r ≡ position (λ x. eqb x b) s → MatchOption r (place_of b s ≡ length s) (λ i. (i ≡ place_of b s) × (place_of b s < length s))
+found_at b s r e = rw e (go (ltb (position_or_len (λ x. eqb x b) s) (length s)) refl) where
+  go : (t : Bool) → ltb (position_or_len (λ x. eqb x b) s) (length s) ≡ t
+      → MatchOption (cond t (Some (position_or_len (λ x. eqb x b) s)) None) (place_of b s ≡ length s) (λ i. (i ≡ place_of b s) × (place_of b s < length s))
+  go true f = (test_place b s, omega (arith, test_place b s, ltb-true _ _ f))
+  go false f = omega (arith, test_place b s, ltb-false _ _ f, place_within b s)
 
-pub seek_start : (b : ℕ) (s : List ℕ) → Seeking b s 0
-seek_start b s = record { within = omega arith; same = zero-add (place_of b s) }
-
-module _ (b : ℕ) (s : List ℕ) (i : ℕ) where
-  pub seek_hit : i < length s → get_or s i 0 ≡ b → Seeking b s i → Place b s i
-  seek_hit h e j = placed b s i j (place_cons b s i h ∙ rw (eq-eqb _ _ e))
-
-  pub seek_turn : i < length s → (get_or s i 0 ≡ b → ⊥) → Seeking b s i → Seeking b s (i + 1)
-  seek_turn h n j =
-      let k : place_of b (drop i s) ≡ suc (place_of b (drop (suc i) s)) = place_cons b s i h ∙ rw (ne_eqb _ _ n) in
-      record { within = omega arith; same = rw add-one (omega (arith, j.same, k)) }
-
-  pub seek_end : length s ≤ i → Seeking b s i → Place b s i
-  unfolding place_of
-  seek_end h j = placed b s i j (ap (place_of b) (drop_of_length-le s h))
+-- what is behind a place, as a part `&s[n + 1..]` says it
+pub all_behind : (s : List ℕ) (n : ℕ) → take (length s - (n + 1)) (drop (n + 1) s) ≡ drop (n + 1) s
+all_behind s n = take_all (length s - (n + 1)) (drop (n + 1) s) (omega (arith, length-drop (n + 1) s))

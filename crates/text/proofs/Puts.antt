@@ -1,19 +1,20 @@
--- Laws of text put at a place: one turn of the loop, its ends, and pieces one behind the other.
+-- Laws of text put at a place: the part that is copied, and pieces one behind the other.
 -- Assumes nothing.
 use mathlib.Core.Path.{◌≡◌, refl, sym, ap, ◌∙◌}
 use mathlib.Core.Bool.{Bool, true, false}
-use mathlib.Core.List.{List, [], ◌∷◌, ◌++◌, append_assoc, append-nil}
+use mathlib.Core.List.{List, [], ◌∷◌, ◌++◌, append-nil}
 use Prim.Native.Nat.{ℕ, zero, suc, ◌+◌, ◌-◌, ◌<◌, ◌≤◌, min}
-use native.Mathlib.Numerals.{add-one}
-use native.Mathlib.Nat.{add-zero, add_assoc}
 use native.Mathlib.Omega.{arith}
 use lib.Dec.{leb}
-use lib.ListN.{length, get_or, set, take, drop, take-append-drop, drop_of_length-le, length-set, length-append, length-take, length-drop}
-use lib.Seq.{take-suc-set, drop-set-lt, drop-cons, take_all, take_at, take-nil, drop-nil, length-take-le}
+use lib.ListN.{length, take, drop, take-append-drop, drop_of_length-le, length-append, length-take, length-drop}
+use lib.Seq.{take_all, take_at, take-nil, drop-nil}
 use borrow.Author.Tests.{leb-true, leb-false}
+use borrow.Rule.Slice.PartMut.{put_mid}
 use Rattle.storage.specs.Media.{laid_over}
 use Rattle.storage.proofs.Reading.{laid_length as over_length}
+use Rattle.text.specs.declared.Output.{Output}
 use Rattle.text.specs.Text.{laid_at, end_at, Puts}
+use Rattle.text.specs.Pieces.{Lays}
 
 laid_none : (p : List ℕ) → laid_over p [] ≡ p
 unfolding laid_over
@@ -22,10 +23,6 @@ laid_none p = ap (λ q. q ++ p) (take-nil (length p))
 laid_nil : (s : List ℕ) → laid_over [] s ≡ []
 unfolding laid_over
 laid_nil s = drop-nil (length s)
-
-laid_cons : (x y : ℕ) (p s : List ℕ) → laid_over (x ∷ p) (y ∷ s) ≡ y ∷ laid_over p s
-unfolding laid_over
-laid_cons x y p s = refl
 
 -- past the end nothing is laid, and nothing laid anywhere leaves all as it was
 laid_past : (out : List ℕ) (at : ℕ) (s : List ℕ) → length out ≤ at → out ≡ laid_at out at s
@@ -46,41 +43,27 @@ pub laid_length : (out : List ℕ) (at : ℕ) (s : List ℕ) → length (laid_at
 unfolding laid_at
 laid_length out at s = simp (length-append, over_length, length-take, length-drop) (omega arith)
 
-laid_turn : (out : List ℕ) (k i : ℕ) (s : List ℕ) → k < length out → i < length s
-    → laid_at (set out k (get_or s i 0)) (k + 1) (drop (i + 1) s) ≡ laid_at out k (drop i s)
-unfolding laid_at
-laid_turn out k i s hk hi =
-    rw (add-one k, add-one i, take-suc-set, drop-set-lt (suc k) out k _ (omega arith), drop-cons out k 0, drop-cons s i 0, laid_cons, append_assoc)
+-- what the copy of a part writes is the text laid
+pub laid_part : (out : List ℕ) (at n : ℕ) (s : List ℕ) → at ≤ length out → n ≡ min (length s) (length out - at)
+    → put_mid at (at + n - at) out (take n s) ≡ laid_at out at s
+unfolding laid_at laid_over
+laid_part out at n s h e =
+    let k : at + n - at ≡ n = omega arith in
+    rw k (go (leb (length s) (length p)) refl) where
+      p : List ℕ
+      p = drop at out
 
--- the loop: i bytes of s are put, and what is left gives what the whole gives
-pub record Putting (out₀ : List ℕ) (at : ℕ) (s : List ℕ) (n : ℕ) (out : List ℕ) (i : ℕ) : Type 0 where
-  pub within : i ≤ n
-  pub size : length out ≡ length out₀
-  pub same : laid_at out (at + i) (drop i s) ≡ laid_at out₀ at s
-
-pub put_start : (out : List ℕ) (at : ℕ) (s : List ℕ) (n : ℕ) → Putting out at s n out 0
-put_start out at s n = record { within = omega arith; size = refl; same = rw add-zero }
-
-pub put_past : (out : List ℕ) (at : ℕ) (s : List ℕ) → length out < at → Puts out at s at out
-put_past out at s h = record { ends = omega arith; all = laid_past out at s (omega arith) }
-
-module _ (out₀ : List ℕ) (at : ℕ) (s : List ℕ) (n : ℕ) (e : n ≡ min (length s) (length out₀ - at)) (out : List ℕ) (i : ℕ) where
-  pub put_turn : i < n → Putting out₀ at s n out i → Putting out₀ at s n (set out (at + i) (get_or s i 0)) (i + 1)
-  put_turn h j =
-      record {
-        within = omega arith;
-        size = length-set out (at + i) _ ∙ j.size;
-        same = rw (← add_assoc) (laid_turn out (at + i) i s (omega (arith, j.size)) (omega arith) ∙ j.same);
-      }
-
-  put_all : at ≤ length out₀ → n ≤ i → Putting out₀ at s n out i → out ≡ laid_at out₀ at s
-  put_all l h j = go (leb (length s) i) refl where
-    go : (t : Bool) → leb (length s) i ≡ t → out ≡ laid_at out₀ at s
-    go true f = laid_nothing out (at + i) ∙ sym (ap (laid_at out (at + i)) (drop_of_length-le s (leb-true (length s) i f))) ∙ j.same
-    go false f = laid_past out (at + i) (drop i s) (omega (arith, j.size, leb-false (length s) i f)) ∙ j.same
-
-  pub put_end : at ≤ length out₀ → n ≤ i → Putting out₀ at s n out i → Puts out₀ at s (at + n) out
-  put_end l h j = record { ends = omega arith; all = put_all l h j }
+      go : (t : Bool) → leb (length s) (length p) ≡ t → take at out ++ (take n s ++ drop n p) ≡ take at out ++ (take (length p) s ++ drop (length s) p)
+      go true f =
+          let l = leb-true _ _ f in
+          let m : n ≡ length s = omega (arith, length-drop at out) in
+          rw (m, take_all (length s) s (omega arith), take_all (length p) s l)
+      go false f =
+          let l = leb-false _ _ f in
+          let m : n ≡ length p = omega (arith, length-drop at out) in
+          let a : length p ≤ length p = omega arith in
+          let b : length p ≤ length s = omega arith in
+          rw (m, drop_of_length-le p a, drop_of_length-le p b)
 
 -- a piece behind another, both laid, are the two in one
 laid_next : (out : List ℕ) (at n : ℕ) (s t : List ℕ) → n ≡ end_at out at s → laid_at (laid_at out at s) n t ≡ laid_at out at (s ++ t)
@@ -97,20 +80,8 @@ laid_next (x ∷ xs) (suc at) (suc n) s t e = ap (λ q. x ∷ q) (laid_next xs a
 pub puts_none : (out : List ℕ) (at : ℕ) → Puts out at [] at out
 puts_none out at = record { ends = omega arith; all = laid_nothing out at }
 
--- where a piece ends, and what the output keeps
-pub ends_within : (out : List ℕ) (at : ℕ) (s : List ℕ) → at ≤ length out → end_at out at s ≤ length out
-ends_within out at s h = omega arith
-
-module _ {out : List ℕ} {at : ℕ} {s : List ℕ} {n : ℕ} {out' : List ℕ} (p : Puts out at s n out') where
-  pub puts_length : length out' ≡ length out
-  puts_length = ap length p.all ∙ laid_length out at s
-
-  pub puts_within : at ≤ length out → n ≤ length out'
-  puts_within h = omega (arith, p.ends, puts_length)
-
-  -- the same, as a part `&out[..n]` asks for it
-  pub puts_part : at ≤ length out → n ≡ length (take n out')
-  puts_part h = sym (length-take-le n out' (puts_within h))
+puts_length : {out : List ℕ} {at : ℕ} {s : List ℕ} {n : ℕ} {out' : List ℕ} → Puts out at s n out' → length out' ≡ length out
+puts_length {out} {at} {s} p = ap length p.all ∙ laid_length out at s
 
 -- pieces, one behind the other, are one
 pub puts_two : {out s t out₁ out₂ : List ℕ} {at n₁ n₂ : ℕ} → Puts out at s n₁ out₁ → Puts out₁ n₁ t n₂ out₂ → Puts out at (s ++ t) n₂ out₂
@@ -119,21 +90,6 @@ puts_two {out} {s} {t} {out₁} {out₂} {at} {n₁} {n₂} p q =
       ends = omega (arith, p.ends, q.ends, puts_length p, length-append s t);
       all = q.all ∙ ap (λ o. laid_at o n₁ t) p.all ∙ laid_next out at n₁ s t p.ends;
     }
-
-module _ {o o₁ o₂ o₃ s₁ s₂ s₃ : List ℕ} {at n₁ n₂ n₃ : ℕ} (p₁ : Puts o at s₁ n₁ o₁) (p₂ : Puts o₁ n₁ s₂ n₂ o₂) (p₃ : Puts o₂ n₂ s₃ n₃ o₃) where
-  pub puts_three : Puts o at (s₁ ++ (s₂ ++ s₃)) n₃ o₃
-  puts_three = puts_two p₁ (puts_two p₂ p₃)
-
-  module _ {o₄ s₄ : List ℕ} {n₄ : ℕ} (p₄ : Puts o₃ n₃ s₄ n₄ o₄) where
-    pub puts_four : Puts o at (s₁ ++ (s₂ ++ (s₃ ++ s₄))) n₄ o₄
-    puts_four = puts_two p₁ (puts_two p₂ (puts_two p₃ p₄))
-
-    module _ {o₅ s₅ : List ℕ} {n₅ : ℕ} (p₅ : Puts o₄ n₄ s₅ n₅ o₅) where
-      pub puts_five : Puts o at (s₁ ++ (s₂ ++ (s₃ ++ (s₄ ++ s₅)))) n₅ o₅
-      puts_five = puts_two p₁ (puts_two p₂ (puts_two p₃ (puts_two p₄ p₅)))
-
-      pub puts_six : {o₆ s₆ : List ℕ} {n₆ : ℕ} → Puts o₅ n₅ s₆ n₆ o₆ → Puts o at (s₁ ++ (s₂ ++ (s₃ ++ (s₄ ++ (s₅ ++ s₆))))) n₆ o₆
-      puts_six p₆ = puts_two p₁ (puts_two p₂ (puts_two p₃ (puts_two p₄ (puts_two p₅ p₆))))
 
 -- laid at the start
 pub laid_at_zero : (out s : List ℕ) → laid_at out 0 s ≡ take (length out) s ++ drop (length s) out
@@ -151,5 +107,24 @@ module _ {out s : List ℕ} {n : ℕ} {out' : List ℕ} (p : Puts out 0 s n out'
   pub puts_whole : length s ≤ length out → take n out' ≡ s
   puts_whole h = puts_front ∙ take_all (length out) s h
 
-  pub puts_count : length s ≤ length out → n ≡ length s
-  puts_count h = omega (arith, p.ends)
+-- the exits of the code
+pub lays_past : (out : Output) (s : List ℕ) → length out.bytes.now < out.place → Lays out s out
+lays_past out s h = record { same = refl; puts = record { ends = omega arith; all = laid_past out.bytes.now out.place s (omega arith) } }
+
+-- mid: what the copied part holds afterwards
+pub lays_part : (out new : Output) (n : ℕ) (s mid : List ℕ) → new.bytes.ghost_name ≡ out.bytes.ghost_name → out.place ≤ length out.bytes.now
+    → n ≡ min (length s) (length out.bytes.now - out.place) → mid ≡ take n s
+    → (new.place ≡ out.place + n) × (new.bytes.now ≡ put_mid out.place (out.place + n - out.place) out.bytes.now mid) → Lays out s new
+lays_part out new n s mid same h e f g =
+    record {
+      same = same;
+      puts = record { ends = omega (arith, g.0, e); all = g.1 ∙ ap (put_mid out.place (out.place + n - out.place) out.bytes.now) f ∙ laid_part out.bytes.now out.place n s h e };
+    }
+
+-- pieces laid one behind the other are one
+pub lays_two : {a b c : Output} {s t : List ℕ} → Lays a s b → Lays b t c → Lays a (s ++ t) c
+lays_two p q = record { same = q.same ∙ p.same; puts = puts_two p.puts q.puts }
+
+-- nothing to put
+pub lays_none : (out : Output) → Lays out [] out
+lays_none out = record { same = refl; puts = puts_none out.bytes.now out.place }

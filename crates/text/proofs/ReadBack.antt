@@ -9,7 +9,7 @@ use native.Mathlib.Omega.{arith}
 use lib.Dec.{eqb}
 use lib.ListN.{length, get_or, length-append, get_or-append}
 use borrow.Author.Tests.{le-leb, eqb-true, eqb-false}
-use Rattle.text.specs.declared.Number.TheVariants.{Value}
+use Rattle.std.proofs.Common.{Some}
 use Rattle.text.specs.Text.{digits_of, decimal, is_digit, all_digits, value_from, most, number_of}
 use Rattle.text.specs.Inside.{read_from}
 use Rattle.text.proofs.Digits.{digits_case}
@@ -68,17 +68,17 @@ digits_first (suc k) n h p =
           ih (omega (arith, h, pow-suc 10 (suc j))) (omega arith)
           (sym (get_or-append (digits_of (suc j) (n / 10)) ((48 + n % 10) ∷ []) 0 0 (digits_some j (n / 10))) ∙ e)
 
-pub decimal_reads : (n : ℕ) → n < 18446744073709551616 → number_of (decimal n) ≡ Value n
+pub decimal_reads : (n : ℕ) → n < 18446744073709551616 → number_of (decimal n) ≡ Some n
 unfolding decimal read_from digits_of
 decimal_reads n h = sym (go (eqb (length (decimal n)) 1) refl) where
-  read : Value n ≡ read_from 0 (decimal n)
+  read : Some n ≡ read_from 0 (decimal n)
   read = rw (digits_all 20 n, digits_value 20 n (omega arith), le-leb n most (omega arith))
 
-  go : (t : Bool) → eqb (length (decimal n)) 1 ≡ t → Value n ≡ number_of (decimal n)
-  go true e = number_one (decimal n) (Value n) (eqb-true (length (decimal n)) 1 e) read
+  go : (t : Bool) → eqb (length (decimal n)) 1 ≡ t → Some n ≡ number_of (decimal n)
+  go true e = number_one (decimal n) (Some n) (eqb-true (length (decimal n)) 1 e) read
   go false e =
-      let long : (length (decimal n) ≡ 1 → ⊥) = eqb-false (length (decimal n)) 1 e in
-      number_more (decimal n) (λ q. omega (arith, q, digits_some 19 n)) long (Value n) (digits_first 20 n (omega arith) (positive n long)) read where
+      let one : (length (decimal n) ≡ 1 → ⊥) = eqb-false (length (decimal n)) 1 e in
+      number_more (decimal n) (omega (arith, one, digits_some 19 n)) (Some n) (digits_first 20 n (omega arith) (positive n one)) read where
         positive : (m : ℕ) → (length (digits_of 20 m) ≡ 1 → ⊥) → 0 < m
         positive zero l = absurd (l refl)
         positive (suc m) l = omega arith

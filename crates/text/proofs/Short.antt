@@ -9,8 +9,7 @@ use lib.Dec.{eqb, leb, ltb}
 use lib.ListN.{length}
 use borrow.Author.Tests.{eqb-false, leb-true, not-true, ne_eqb}
 use Rattle.waymaker_core.proofs.Choice.{cond_case}
-use Rattle.text.specs.declared.Number.{Number}
-use Rattle.text.specs.declared.Number.TheVariants.{Value}
+use Rattle.std.proofs.Common.{Option, Some}
 use Rattle.text.specs.Text.{is_digit, all_digits, is_decimal, value_from, most, number_of}
 use Rattle.text.proofs.Numbers.{value_grows}
 
@@ -31,7 +30,7 @@ five_digits : (b c d f g : ℕ) (s : List ℕ) → 48 < b → 10000 ≤ value_fr
 unfolding value_from
 five_digits b c d f g s h = omega (arith, value_grows (((((0 * 10 + (b - 48)) * 10 + (c - 48)) * 10 + (d - 48)) * 10 + (f - 48)) * 10 + (g - 48)) s)
 
-pub number_short : (s : List ℕ) (v : ℕ) → number_of s ≡ Value v → v < 10000 → length s ≤ 4
+pub number_short : (s : List ℕ) (v : ℕ) → number_of s ≡ Some v → v < 10000 → length s ≤ 4
 unfolding number_of
 number_short [] v e h = omega arith
 number_short (b ∷ []) v e h = omega arith
@@ -39,7 +38,7 @@ number_short (b ∷ c ∷ []) v e h = omega arith
 number_short (b ∷ c ∷ d ∷ []) v e h = omega arith
 number_short (b ∷ c ∷ d ∷ f ∷ []) v e h = omega arith
 number_short (b ∷ c ∷ d ∷ f ∷ g ∷ s) v e h =
-    cond_case (λ (x : Number). x ≡ Value v → length (b ∷ c ∷ d ∷ f ∷ g ∷ s) ≤ 4) (is_decimal (b ∷ c ∷ d ∷ f ∷ g ∷ s) && leb (value_from 0 (b ∷ c ∷ d ∷ f ∷ g ∷ s)) most)
+    cond_case (λ (x : Option ℕ). x ≡ Some v → length (b ∷ c ∷ d ∷ f ∷ g ∷ s) ≤ 4) (is_decimal (b ∷ c ∷ d ∷ f ∷ g ∷ s) && leb (value_from 0 (b ∷ c ∷ d ∷ f ∷ g ∷ s)) most)
     (λ t i.
     let same : value_from 0 (b ∷ c ∷ d ∷ f ∷ g ∷ s) ≡ v = cc in
     let w = ((and-eq-true_iff (is_decimal (b ∷ c ∷ d ∷ f ∷ g ∷ s)) (leb (value_from 0 (b ∷ c ∷ d ∷ f ∷ g ∷ s)) most)).0 t).0 in

@@ -1,3 +1,4 @@
 -- The definitions of text.
 pub mod Text
+pub mod Pieces
 pub mod Inside

@@ -1,12 +1,10 @@
 -- Numbers as text: how they are written in decimal, where text is laid, and which text is a number.
 -- Bytes are ASCII: 48 to 57 are the digits 0 to 9.
 use Rattle.std.specs.Prelude.{◌≡◌, Bool, true, cond, not, ◌&&◌, ◌||◌, List, [], ◌∷◌, ◌++◌, ℕ, zero, suc, ◌+◌, ◌-◌}
-use Rattle.std.specs.Prelude.{◌*◌, ◌/◌, ◌%◌, ◌≤◌, min, eqb, leb, ltb, length, get_or, take, drop}
+use Rattle.std.specs.Prelude.{Option, Some, None, ◌*◌, ◌/◌, ◌%◌, min, eqb, leb, ltb, length, get_or, take, drop}
 use Prim.Native.Char.{code}
 use Prim.Native.String.{String, len, char_at}
 use Rattle.storage.specs.Media.{laid_over}
-use Rattle.text.specs.declared.Number.{Number}
-use Rattle.text.specs.declared.Number.TheVariants.{Value, Bad}
 
 -- the codes of n characters of a text, from the i-th on
 abbrev pub codes_from : ℕ → ℕ → String → List ℕ
@@ -44,12 +42,6 @@ unfoldable pub place_of : ℕ → List ℕ → ℕ
 place_of b [] = 0
 place_of b (x ∷ xs) = cond (eqb x b) 0 (suc (place_of b xs))
 
--- n is that place; that it lies within s is said in the two ways that a part `&s[..n]` asks for
-pub record Place (b : ℕ) (s : List ℕ) (n : ℕ) : Type 0 where
-  pub all : n ≡ place_of b s
-  pub within : n ≤ length s
-  pub part : n ≡ length (take n s)
-
 -- the byte is `0` to `9`
 abbrev pub is_digit : ℕ → Bool
 is_digit b = leb 48 b && leb b 57
@@ -73,5 +65,5 @@ abbrev pub most : ℕ
 most = 18446744073709551615
 
 -- the number that a text is: in decimal, and 64 bits hold it
-unfoldable pub number_of : List ℕ → Number
-number_of s = cond (is_decimal s && leb (value_from 0 s) most) (Value (value_from 0 s)) Bad
+unfoldable pub number_of : List ℕ → Option ℕ
+number_of s = cond (is_decimal s && leb (value_from 0 s) most) (Some (value_from 0 s)) None

@@ -1,124 +1,99 @@
-// Numbers as text: written in decimal into a lent output, and read back from a line's fields.
+// Numbers as text: written in decimal into lent bytes, and read back from a line's fields.
 #![tactic(auto)]
 
 ghost use Rattle.std.specs.Prelude.{◌≡◌, [], ◌∷◌, ◌++◌};
-ghost use Rattle.text.specs.Text.{decimal, Puts, Place, number_of};
+ghost use Rattle.text.specs.Text.{decimal, number_of};
+ghost use Rattle.text.specs.Pieces.{Lays, Parts};
 ghost use Rattle.text.specs.Inside.{with_digit, read_from};
 
-use storage::geometry::min;
+// Lent bytes, and the place where the next piece of text goes. What does not fit is left out, so that no piece of a
+// line asks for room on its own.
+#[derive(Drop)]
+pub struct Output<'a> {
+    pub bytes: &'a mut [u8],
+    // Past the end nothing is put.
+    pub place: usize,
+}
 
-#[derive(Clone, Copy)]
-pub enum Number {
-    Value(u64),
-    // No number: not all digits, none at all, a zero in front, or more than 64 bits.
-    Bad,
+impl<'a> Output<'a> {
+    pub fn new(bytes: &'a mut [u8]) -> Output<'a>
+        ensures same { result.bytes.ghost_name ≡ bytes.entry.ghost_name }
+        ensures bytes { result.bytes.now ≡ bytes.old }
+        ensures place { result.place ≡ 0 }
+    {
+        Output { bytes, place: 0 }
+    }
+
+    // Puts bytes at the place, which is then where they end.
+    pub fn put(&mut self, s: &[u8])
+        ensures { Lays self.old s.now self.new }
+    {
+        let len = self.bytes.len();
+        if len < self.place {
+            return;
+        }
+        let n = s.len().min(len - self.place);
+        self.bytes[self.place..self.place + n].copy_from_slice(&s[..n]);
+        self.place += n;
+    }
+
+    // Puts the digits of a number.
+    pub fn put_decimal(&mut self, n: u64)
+        ensures { Lays self.old (decimal n) self.new }
+    {
+        self.put(itoa::Buffer::new().format(n).as_bytes());
+    }
+
+    // Puts a number and the byte that ends it: a comma, or a line feed.
+    pub fn put_field(&mut self, n: u64, end: u8)
+        ensures { Lays self.old (decimal n ++ (end ∷ [])) self.new }
+    {
+        self.put_decimal(n);
+        self.put(&[end]);
+    }
 }
 
 // What parts the numbers of a line, and what ends it.
-pub const COMMA: u8 = 44;
+pub const COMMA: u8 = b',';
 
-pub const LINE_FEED: u8 = 10;
+pub const LINE_FEED: u8 = b'\n';
 
-// The greatest number of 64 bits.
-const MOST: u64 = 18446744073709551615;
-
-// Puts bytes at a place and answers where they end. What does not fit is left out, so that no piece of a line asks
-// for room on its own.
-pub fn put(out: &mut [u8], at: usize, s: &[u8]) -> usize
-    ensures { Puts out.old at s.now result out.new }
+// The bytes before the first one that equals b, and those behind it.
+pub fn split_once(s: &[u8], b: u8) -> Option<(&[u8], &[u8])>
+    ensures { Parts b s.now result }
 {
-    let len = out.len();
-    if len < at {
-        return at;
-    }
-    let n = min(s.len(), len - at);
-    let mut i: usize = 0;
-    while i < n {
-        out[at + i] = s[i];
-        i += 1;
-    }
-    at + n
+    let place = s.iter().position(|&x| x == b)?;
+    Some((&s[..place], &s[place + 1..]))
 }
 
-// Puts the digits of a number.
-pub fn put_decimal(out: &mut [u8], at: usize, n: u64) -> usize
-    ensures { Puts out.old at (decimal n) result out.new }
-{
-    let mut text = [0u8; 20];
-    let k = io::decimal(n, &mut text);
-    put(out, at, &text[..k])
-}
-
-// Puts a number and the byte that ends it: a comma, or a line feed.
-pub fn put_field(out: &mut [u8], at: usize, n: u64, end: u8) -> usize
-    ensures { Puts out.old at (decimal n ++ (end ∷ [])) result out.new }
-{
-    let next = put_decimal(out, at, n);
-    let last = [end];
-    put(out, next, &last)
-}
-
-// The place of the first byte that equals b, or the slice's length where there is none.
-pub fn find_byte(s: &[u8], b: u8) -> usize
-    ensures { Place b s.now result }
-{
-    let mut place: usize = 0;
-    while place < s.len() {
-        if s[place] == b {
-            return place;
-        }
-        place += 1;
-    }
-    place
-}
-
-// A number with one more digit behind its own; bad where the byte is no digit, or 64 bits do not hold it.
-fn with_digit(v: u64, b: u8) -> Number
+// A number with one more digit behind its own, where the byte is a digit and 64 bits hold it.
+fn with_digit(v: u64, b: u8) -> Option<u64>
     ensures { result ≡ with_digit v b }
 {
-    if b < 48 {
-        return Number::Bad;
+    if !b.is_ascii_digit() {
+        return None;
     }
-    if 57 < b {
-        return Number::Bad;
-    }
-    let d = (b - 48) as u64;
-    // Looked at before it is multiplied, so that nothing wraps.
-    if (MOST - d) / 10 < v {
-        return Number::Bad;
-    }
-    Number::Value(v * 10 + d)
+    v.checked_mul(10)?.checked_add((b - b'0') as u64)
 }
 
 // The number that digits make, with zeros in front allowed; no digits make 0.
-fn value_of(s: &[u8]) -> Number
+fn value_of(s: &[u8]) -> Option<u64>
     ensures { result ≡ read_from 0 s.now }
 {
-    let mut v: u64 = 0;
-    let mut i: usize = 0;
-    while i < s.len() {
-        let next = with_digit(v, s[i]);
-        match next {
-            Number::Value(x) => v = x,
-            Number::Bad => return Number::Bad,
-        }
-        i += 1;
+    let mut v = 0;
+    for &b in s {
+        v = with_digit(v, b)?;
     }
-    Number::Value(v)
+    Some(v)
 }
 
-// The number that a text is, in decimal as put_decimal writes it.
-pub fn number_of(s: &[u8]) -> Number
+// The number that a text is, in decimal as put_decimal writes it, where 64 bits hold it.
+pub fn number_of(s: &[u8]) -> Option<u64>
     ensures { result ≡ number_of s.now }
 {
-    if s.len() == 0 {
-        return Number::Bad;
+    match s {
+        [] => None,
+        [b'0', _, ..] => None,
+        _ => value_of(s),
     }
-    if s.len() == 1 {
-        return value_of(s);
-    }
-    if s[0] == 48 {
-        return Number::Bad;
-    }
-    value_of(s)
 }

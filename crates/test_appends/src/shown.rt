@@ -1,0 +1,50 @@
+// Refusals, counts and a step's answer as the program prints them.
+use counts::WriteAmplification;
+use progress::{Advanced, Progress};
+use std::fmt;
+use waymaker_core::error::Refusal;
+
+// A refusal's number, and the values that come with it.
+#[derive(Clone, Copy)]
+pub(crate) struct Refused(pub Refusal);
+
+impl fmt::Display for Refused {
+    fn fmt<W: fmt::Write>(&self, f: &mut fmt::Formatter<W>) -> fmt::Result {
+        let refusal = self.0;
+        write!(f, "refused {} {}", refusal.number(), refusal.needed())?;
+        write!(f, " {}", refusal.available())
+    }
+}
+
+#[derive(Clone, Copy)]
+struct Counts(WriteAmplification);
+
+impl fmt::Display for Counts {
+    fn fmt<W: fmt::Write>(&self, f: &mut fmt::Formatter<W>) -> fmt::Result {
+        let counts = self.0;
+        write!(f, "{} {}", counts.payload_bytes, counts.programmed_bytes)?;
+        write!(f, " {} {}", counts.program_operations, counts.barriers)
+    }
+}
+
+// A step's answer, then the journal's offset and its counts.
+#[derive(Clone, Copy)]
+pub(crate) struct Step(pub Advanced);
+
+impl fmt::Display for Step {
+    fn fmt<W: fmt::Write>(&self, f: &mut fmt::Formatter<W>) -> fmt::Result {
+        let Advanced { journal, progress } = self.0;
+        match progress {
+            Ok(Progress::Staged) => f.write_str("staged")?,
+            Ok(Progress::Confirmed) => f.write_str("confirmed")?,
+            Ok(Progress::Committed(own)) => write!(f, "committed {}", Counts(own))?,
+            Err(refusal) => write!(f, "{}", Refused(refusal))?,
+        }
+        write!(
+            f,
+            "; at {}, counts {}",
+            journal.offset,
+            Counts(journal.written)
+        )
+    }
+}

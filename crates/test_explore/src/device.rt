@@ -1,0 +1,86 @@
+// A small region and a page, with what is done on them.
+use crate::item::Item;
+use append::step::{commit, payload_barrier};
+use journal::Journal;
+use progress::Progress;
+use recovery::next::Recovery;
+use staging::step::stage;
+use storage::geometry::Geometry;
+use waymaker_core::error::Refusal;
+
+// The length of every region and page.
+const N: usize = 96;
+
+#[derive(Clone, Copy)]
+pub(crate) struct Device {
+    a: u32,
+    region: [u8; N],
+    page: [u8; N],
+}
+
+impl Device {
+    // With an erased region.
+    pub(crate) fn new(a: u32) -> Self {
+        Device {
+            a,
+            region: [255; N],
+            page: [0; N],
+        }
+    }
+
+    pub(crate) fn open(&mut self) -> Result<Journal, Refusal> {
+        Journal::open(self.a as usize, 1, &self.region, &mut self.page)
+    }
+
+    pub(crate) fn stage(&mut self, journal: Journal, item: Item) -> Journal {
+        let (record, free) = (item.record(), item.free());
+        stage(journal, record, free, &mut self.region, &mut self.page).journal
+    }
+
+    // Barrier and commit; none where the record is not committed, as where it was not staged.
+    pub(crate) fn seal(&mut self, journal: Journal) -> Option<Journal> {
+        let confirmed = payload_barrier(journal, &self.region);
+        let done = commit(confirmed.journal, &mut self.region);
+        matches!(done.progress, Ok(Progress::Committed(_))).then_some(done.journal)
+    }
+
+    pub(crate) fn append(&mut self, journal: Journal, item: Item) -> Option<Journal> {
+        let staged = self.stage(journal, item);
+        self.seal(staged)
+    }
+
+    // Whether recovery finds these items, in order, and nothing else.
+    pub(crate) fn finds(&mut self, items: [Option<Item>; 3]) -> bool {
+        let mut state = Recovery::new(Geometry {
+            bytes: 96,
+            program_size: self.a,
+            read_size: 1,
+        });
+        for item in items.into_iter().flatten() {
+            let step = state.next(&self.region, &mut self.page);
+            match step.answer {
+                Ok(Some(found)) if item.is(found, &self.page) => state = step.state,
+                _ => return false,
+            }
+        }
+        let last = state.next(&self.region, &mut self.page);
+        !matches!(last.answer, Ok(Some(_)))
+    }
+
+    // Puts back the bits of the mask at a place of the region, as far as it reaches.
+    pub(crate) fn loosen(&mut self, at: usize, mask: &[u8]) {
+        for (byte, bits) in self.region.iter_mut().skip(at).zip(mask) {
+            *byte |= *bits;
+        }
+    }
+
+    // The bits that are 0 of the slot at a place, as a number whose bytes are a mask.
+    pub(crate) fn zeros(&self, slot: usize) -> u32 {
+        let mut bytes = [255; 4];
+        let slot = self.region.iter().skip(slot).take(self.a as usize);
+        for (byte, sealed) in bytes.iter_mut().zip(slot) {
+            *byte = *sealed;
+        }
+        !u32::from_le_bytes(bytes)
+    }
+}

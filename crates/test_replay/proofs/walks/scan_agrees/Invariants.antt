@@ -1,8 +1,0 @@
-use Prim.Native.Nat.{◌≤◌}
-use Rattle.test_replay.proofs.walks.scan_agrees.Given as goal
-
-abbrev pub invariant-loop-left : goal.invariant-loop-left
-invariant-loop-left l = l.left ≤ 4096
-
-abbrev pub decreases-loop-left : goal.decreases-loop-left
-decreases-loop-left l = l.left

@@ -1,0 +1,50 @@
+// Refusals and steps as the program prints them.
+use recovery::next::{Ending, Stepped};
+use std::fmt;
+use waymaker_core::error::Refusal;
+
+// A refusal's number, and the bytes that it needed.
+#[derive(Clone, Copy)]
+pub(crate) struct Refused(pub Refusal);
+
+impl fmt::Display for Refused {
+    fn fmt<W: fmt::Write>(&self, f: &mut fmt::Formatter<W>) -> fmt::Result {
+        write!(f, "refused {} {}", self.0.number(), self.0.needed())
+    }
+}
+
+fn name(ending: Ending) -> &'static str {
+    match ending {
+        Ending::Open => "open",
+        Ending::Clean => "clean",
+        Ending::Damaged => "damaged",
+        Ending::Incomplete => "incomplete",
+        Ending::Unsealed => "unsealed",
+    }
+}
+
+// A step's answer, and the state after it.
+#[derive(Clone, Copy)]
+pub(crate) struct Step(pub Stepped);
+
+impl fmt::Display for Step {
+    fn fmt<W: fmt::Write>(&self, f: &mut fmt::Formatter<W>) -> fmt::Result {
+        let Stepped { state, answer } = self.0;
+        match answer {
+            Ok(Some(found)) => {
+                let sealed = found.record;
+                let kind = sealed.record.kind();
+                write!(f, "found at {}, kind {}", found.offset, kind.0)?;
+                write!(
+                    f,
+                    ", payload {} {}",
+                    sealed.payload.place, sealed.payload.len
+                )?;
+                write!(f, ", length {}", sealed.len)?;
+            }
+            Ok(None) => f.write_str("ended")?,
+            Err(refusal) => write!(f, "{}", Refused(refusal))?,
+        }
+        write!(f, "; {} at {}", name(state.ending), state.offset)
+    }
+}
