@@ -1,6 +1,7 @@
 -- A listing as document 01 states it: a line for each record that the walk over a region finds, then the last line; and
 -- the input that it is made from. No page and no output's length in it.
-use Rattle.std.specs.Prelude.{◌≡◌, cond, Option, Some, None, Ok, Err, List, [], ◌∷◌, ◌++◌, ℕ, ◌+◌, ◌≤◌, eqb, ltb, length, take, drop}
+use Rattle.std.specs.Prelude.{◌≡◌, cond, Option, Some, None, Ok, Err, List, [], ◌∷◌, ◌++◌, ℕ, ◌+◌, ◌≤◌}
+use Rattle.std.specs.Prelude.{eqb, ltb, length, take, drop}
 use Rattle.storage.specs.declared.geometry.Geometry.{Geometry}
 use Rattle.storage.specs.Settings.{Checked, settings}
 use Rattle.text.specs.Text.{laid_at, end_at, place_of, number_of}
