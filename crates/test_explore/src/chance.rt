@@ -10,14 +10,11 @@ use waymaker_core::record::RecordKind;
 // How many sequences are tried.
 const BUDGET: u32 = 20000;
 
-// What the record is, and what its first n bytes may read as; the sequence of the latter has these bits more.
+// A record of any sequence, and the one that its first n bytes may read as, whose sequence has these bits more.
 #[derive(Clone, Copy)]
 struct Pair {
-    kind: RecordKind,
-    len: usize,
-    as_kind: RecordKind,
-    as_len: usize,
-    bits: u32,
+    item: Item,
+    other: Item,
     n: usize,
 }
 
@@ -25,11 +22,12 @@ impl Pair {
     // Both have payloads of this length.
     fn new(kind: RecordKind, as_kind: RecordKind, len: usize, bits: u32, n: usize) -> Self {
         Pair {
-            kind,
-            len,
-            as_kind,
-            as_len: len,
-            bits,
+            item: Item { kind, seq: 0, len },
+            other: Item {
+                kind: as_kind,
+                seq: bits,
+                len,
+            },
             n,
         }
     }
@@ -38,15 +36,15 @@ impl Pair {
 // Header checks that agree: one bit of the sequence more, another kind (of 4 and of 2, which is not skipped), and a
 // payload's length that reads as 4 and not 0.
 pub(crate) fn headers(a: u32) -> Tally {
+    let empty = Item {
+        kind: RecordKind::EFFECT_COMPLETED,
+        seq: 0,
+        len: 0,
+    };
     let longer = Pair {
-        as_len: 4,
-        ..Pair::new(
-            RecordKind::EFFECT_COMPLETED,
-            RecordKind::EFFECT_COMPLETED,
-            0,
-            0,
-            12,
-        )
+        item: empty,
+        other: Item { len: 4, ..empty },
+        n: 12,
     };
     search(
         a,
@@ -115,15 +113,10 @@ fn covers(x: &[u8], y: &[u8]) -> bool {
 }
 
 fn one_seq(tally: &mut Tally, a: u32, pair: Pair, seq: u32) {
-    let item = Item {
-        kind: pair.kind,
-        seq,
-        len: pair.len,
-    };
+    let item = Item { seq, ..pair.item };
     let other = Item {
-        kind: pair.as_kind,
-        seq: seq | pair.bits,
-        len: pair.as_len,
+        seq: seq | pair.other.seq,
+        ..pair.other
     };
     let front = laid(other);
     if covers(first(&laid(item), pair.n), &front) {

@@ -29,6 +29,7 @@ fn mask<F: Fn(usize) -> bool>(left: F) -> [u8; MOST]
     requires { F.IsAlwaysCallable left }
 {
     let mut mask = [0; MOST];
+    // Over the bits, of which a byte has eight.
     for k in 0..8 * MOST {
         if left(k) {
             mask[k / 8] |= 1 << (k % 8);
@@ -106,7 +107,7 @@ impl Cut {
         self.tried(false, device)
     }
 
-    // Of the 0 bits of the seal, every set is left old once.
+    // Of the 0 bits of the seal, every set is left old once. The sets count down, from all bits to none.
     pub(crate) fn slots(&self, tally: &mut Tally) {
         let zeros = self.whole.zeros(self.slot);
         let mut bits = zeros;

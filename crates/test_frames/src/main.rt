@@ -15,6 +15,7 @@ use std::io::{self, Read};
 use testing::tally::Tally;
 use vectors::Vectors;
 
+// The tags. They are read in one match, which passes over any other; an enum would have that match twice.
 const ENCODE: u8 = 1;
 
 const DECODE: u8 = 2;

@@ -9,6 +9,7 @@ use falling::{by_cursor, by_reader};
 use started::{show_started, start_agrees};
 use std::{fmt, io};
 use testing::parts::first;
+use testing::tally::Tally;
 
 const BYTES: &[u8] =
     b"\x01\x02\x03\x04\x05\x06\x07\x08\xf1\xf2\xf3\xf4\xf5\xf6\xf7\xf8\x11\x12\x13\x14\x15\x16\x17\x18";
@@ -31,10 +32,14 @@ fn agree(payload: &[u8], at: usize) -> bool {
 }
 
 // Every length to 24, from every place to 27: how many agree.
-fn agreeing(bytes: &[u8]) -> usize {
-    (0..700usize)
-        .filter(|i| agree(first(bytes, *i / 28), *i % 28))
-        .count()
+fn agreeing(bytes: &[u8]) -> Tally {
+    let mut tally = Tally::default();
+    for len in 0..25 {
+        for at in 0..28 {
+            tally.add(agree(first(bytes, len), at));
+        }
+    }
+    tally
 }
 
 fn show(rt: &impl Print, payload: &[u8], at: usize) -> io::Result<()> {
@@ -42,7 +47,7 @@ fn show(rt: &impl Print, payload: &[u8], at: usize) -> io::Result<()> {
     print!(rt; "of {} bytes, from {at}:", payload.len())?;
     print!(rt; "{}{}", Taken(seen.eight.0), Taken(seen.four.0))?;
     print!(rt; "{}{}", Taken(seen.two.0), Taken(seen.one.0))?;
-    println!(rt; "; at {}, left {}", seen.one.1, seen.left)
+    println!(rt; "; at {}, left {}", seen.one.1, seen.rest.len())
 }
 
 fn main(rt: HostRuntime) -> io::Result<()> {
@@ -55,5 +60,5 @@ fn main(rt: HostRuntime) -> io::Result<()> {
     for n in [3, 4, 24] {
         show_started(&rt, first(BYTES, n))?;
     }
-    println!(rt; "agree: {} of 700", agreeing(BYTES))
+    println!(rt; "agree: {} of 700", agreeing(BYTES).good)
 }

@@ -28,7 +28,9 @@ fn steps(rt: &impl Print, geometry: Geometry, region: &[u8], page: &mut [u8]) ->
 }
 
 // Three sequences, of which the last is that of the records of a run.
-fn finds(rt: &impl Print, a: usize, r: usize, region: &[u8], page: &mut [u8]) -> io::Result<()> {
+fn finds(rt: &impl Print, geometry: Geometry, region: &[u8], page: &mut [u8]) -> io::Result<()> {
+    let a = geometry.program_size as usize;
+    let r = geometry.read_size as usize;
     for seq in [7, 8, 0] {
         match find(EffectSeq(seq), a, r, region, page) {
             Ok(Some(offset)) => println!(rt; "find {seq}: at {offset}")?,
@@ -39,7 +41,9 @@ fn finds(rt: &impl Print, a: usize, r: usize, region: &[u8], page: &mut [u8]) ->
     Ok(())
 }
 
-fn opens(rt: &impl Print, a: usize, r: usize, region: &[u8], page: &mut [u8]) -> io::Result<()> {
+fn opens(rt: &impl Print, geometry: Geometry, region: &[u8], page: &mut [u8]) -> io::Result<()> {
+    let a = geometry.program_size as usize;
+    let r = geometry.read_size as usize;
     match Journal::open(a, r, region, page) {
         Ok(journal) => println!(rt; "open: ready at {}", journal.offset),
         Err(refusal) => println!(rt; "open: {}", Refused(refusal)),
@@ -47,11 +51,9 @@ fn opens(rt: &impl Print, a: usize, r: usize, region: &[u8], page: &mut [u8]) ->
 }
 
 fn show(rt: &impl Print, geometry: Geometry, region: &[u8], page: &mut [u8]) -> io::Result<()> {
-    let a = geometry.program_size as usize;
-    let r = geometry.read_size as usize;
     steps(rt, geometry, region, page)?;
-    finds(rt, a, r, region, page)?;
-    opens(rt, a, r, region, page)
+    finds(rt, geometry, region, page)?;
+    opens(rt, geometry, region, page)
 }
 
 // A record at a place of the region. One that encode refused would not be found.

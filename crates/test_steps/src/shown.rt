@@ -13,6 +13,7 @@ impl fmt::Display for Refused {
     }
 }
 
+// Ending is another crate's: to print it by Display would take a struct around it.
 fn name(ending: Ending) -> &'static str {
     match ending {
         Ending::Open => "open",
