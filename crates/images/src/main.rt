@@ -86,8 +86,8 @@ fn cut() -> [u8; 128] {
 }
 
 // Writes the image of a region.
-fn show(rt: &HostRuntime, region: &[u8]) -> io::Result<()> {
-    let mut out = rt.stdout();
+fn show(rt: &impl Print, region: &[u8]) -> io::Result<()> {
+    let mut out = io::writer(rt);
     out.write_all(b"4,1\n")?;
     out.write_all(region)
 }
@@ -97,9 +97,9 @@ fn chosen(s: &[u8]) -> Option<u64> {
     number_of(split_once(s, LINE_FEED).map_or(s, |(line, _)| line))
 }
 
-fn make_image(rt: &HostRuntime) -> Result<(), Failure> {
+fn make_image(rt: &(impl Input + Print + Eprint)) -> Result<(), Failure> {
     let mut line = [0u8; 16];
-    let n = read_all(&mut rt.stdin(), &mut line).map_err(|_| Failure::Input)?;
+    let n = read_all(&mut rt.reader(), &mut line).map_err(|_| Failure::Input)?;
     let written = match chosen(&line[..n]) {
         Some(1) => show(rt, &update()),
         Some(2) => show(rt, &cut()),

@@ -2,17 +2,17 @@
 // written, whatever it says; what cannot be read or written is said on standard error, with status 1.
 #![tactic(auto)]
 
-use report::input::list_input;
-use std::io::Write;
+use report::input::{INPUT_ROOM, LISTING_ROOM, list_input};
+use std::io::{self, Write};
 use std::process::ExitCode;
 use stdio::{Failure, exit_code, read_all};
 
-fn print_listing(rt: &HostRuntime) -> Result<(), Failure> {
-    let mut input = [0u8; 32784];
-    let mut out = [0u8; 102400];
-    let n = read_all(&mut rt.stdin(), &mut input).map_err(|_| Failure::Input)?;
+fn print_listing(rt: &(impl Input + Print)) -> Result<(), Failure> {
+    let mut input = [0u8; INPUT_ROOM];
+    let mut out = [0u8; LISTING_ROOM];
+    let n = read_all(&mut rt.reader(), &mut input).map_err(|_| Failure::Input)?;
     let end = list_input(&input, n, &mut out);
-    rt.stdout()
+    io::writer(rt)
         .write_all(&out[..end])
         .map_err(|_| Failure::Output)
 }

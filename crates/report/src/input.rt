@@ -12,6 +12,12 @@ use text::{COMMA, LINE_FEED, Output, number_of, split_once};
 // The longest region that is listed.
 const REGION_MOST: usize = 32768;
 
+// Room for a first line of nine bytes and the longest region, so that a longer input is refused by its beginning.
+pub const INPUT_ROOM: usize = 32784;
+
+// Room for every listing.
+pub const LISTING_ROOM: usize = 102400;
+
 #[derive(Clone, Copy)]
 pub struct Units {
     pub program_size: u64,
@@ -64,6 +70,7 @@ fn put_listing(out: &mut Output, input: &[u8])
 }
 
 // Lays the listing of an input over the start of the output and answers where it ends. What does not fit is left out.
+// The end and no part: what stood behind it stands there still, for the caller that lent it to read.
 pub fn list(input: &[u8], out: &mut [u8]) -> usize
     ensures { Prints (listing input.now) out.old result out.new }
 {
@@ -72,10 +79,9 @@ pub fn list(input: &[u8], out: &mut [u8]) -> usize
     output.place
 }
 
-// The listing of the input whose first n bytes stand in the array. A first line of nine bytes and a region of 32,768
-// leave room there, so that a longer input is refused by its beginning; the output has room for every listing.
+// The listing of the input whose first n bytes stand in the array.
 // The count stands beside the array since a slice of n bytes would not say whether more of the input had found room.
-pub fn list_input(input: &[u8; 32784], n: usize, out: &mut [u8; 102400]) -> usize
+pub fn list_input(input: &[u8; INPUT_ROOM], n: usize, out: &mut [u8; LISTING_ROOM]) -> usize
     ensures { Lists input.now n out.old result out.new }
 {
     list(&input[..n.min(input.len())], out)

@@ -7,7 +7,8 @@ ghost use Rattle.text.specs.Pieces.{Lays, Parts};
 ghost use Rattle.text.specs.Inside.{with_digit, read_from};
 
 // Lent bytes, and the place where the next piece of text goes. What does not fit is left out, so that no piece of a
-// line asks for room on its own.
+// line asks for room on its own. Pieces are put one by one: what `write!` writes is promised only where it answers `Ok`,
+// and nothing promises that it does.
 #[derive(Drop)]
 pub struct Output<'a> {
     pub bytes: &'a mut [u8],
@@ -73,21 +74,18 @@ fn with_digit(v: u64, b: u8) -> Option<u64>
     if !b.is_ascii_digit() {
         return None;
     }
-    v.checked_mul(10)?.checked_add((b - b'0') as u64)
+    v.checked_mul(10)?.checked_add(u64::from(b - b'0'))
 }
 
 // The number that digits make, with zeros in front allowed; no digits make 0.
 fn value_of(s: &[u8]) -> Option<u64>
     ensures { result ≡ read_from 0 s.now }
 {
-    let mut v = 0;
-    for &b in s {
-        v = with_digit(v, b)?;
-    }
-    Some(v)
+    s.iter().try_fold(0, |v, &b| with_digit(v, b))
 }
 
-// The number that a text is, in decimal as put_decimal writes it, where 64 bits hold it.
+// The number that a text is, in decimal as put_decimal writes it, where 64 bits hold it. `str::parse` takes more: a sign,
+// and zeros in front.
 pub fn number_of(s: &[u8]) -> Option<u64>
     ensures { result ≡ number_of s.now }
 {

@@ -10,4 +10,4 @@ pub returns-in_err-checked_mul : goal.returns-in_err-checked_mul
 returns-in_err-checked_mul c = c.from_residual.ensures ∙ digit_over _ _ (omega (arith, c.in_err-checked_mul.ensures))
 
 pub returns : goal.returns
-returns c = digit_added _ _ _ _ (sym c.is_ascii_digit.ensures.value ∙ c.if-not-is_ascii_digit.false) c.in_ok-checked_mul.ensures.1 c.checked_add.ensures
+returns c = digit_added _ _ _ _ (sym c.is_ascii_digit.ensures.value ∙ c.if-not-is_ascii_digit.false) c.in_ok-checked_mul.ensures.1 (rw c.from.ensures at c.checked_add.ensures)
