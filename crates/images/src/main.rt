@@ -7,7 +7,7 @@ mod records;
 
 use encode::encode;
 use records::{fired, gate, outcome, scheduled, started, timer};
-use std::io::{self, Write};
+use std::io::{self, Read, Write};
 use std::process::ExitCode;
 use stdio::{Failure, exit_code, read_all};
 use text::{LINE_FEED, Output, number_of, split_once};
@@ -86,10 +86,9 @@ fn cut() -> [u8; 128] {
 }
 
 // Writes the image of a region.
-fn show(rt: &impl Print, region: &[u8]) -> io::Result<()> {
-    let mut out = io::writer(rt);
-    out.write_all(b"4,1\n")?;
-    out.write_all(region)
+fn show(writer: &mut impl Write, region: &[u8]) -> io::Result<()> {
+    writer.write_all(b"4,1\n")?;
+    writer.write_all(region)
 }
 
 // The number on the first line.
@@ -97,12 +96,16 @@ fn chosen(s: &[u8]) -> Option<u64> {
     number_of(split_once(s, LINE_FEED).map_or(s, |(line, _)| line))
 }
 
-fn make_image(rt: &(impl Input + Print + Eprint)) -> Result<(), Failure> {
+fn make_image(
+    rt: &impl Eprint,
+    reader: &mut impl Read,
+    writer: &mut impl Write,
+) -> Result<(), Failure> {
     let mut line = [0u8; 16];
-    let n = read_all(&mut rt.reader(), &mut line).map_err(|_| Failure::Input)?;
+    let n = read_all(reader, &mut line).map_err(|_| Failure::Input)?;
     let written = match chosen(&line[..n]) {
-        Some(1) => show(rt, &update()),
-        Some(2) => show(rt, &cut()),
+        Some(1) => show(writer, &update()),
+        Some(2) => show(writer, &cut()),
         _ => {
             let _ = rt.eprintln("images: standard input says which image, 1 or 2");
             return Ok(());
@@ -112,5 +115,9 @@ fn make_image(rt: &(impl Input + Print + Eprint)) -> Result<(), Failure> {
 }
 
 fn main(rt: HostRuntime) -> ExitCode {
-    exit_code(&rt, "images", make_image(&rt))
+    exit_code(
+        &rt,
+        "images",
+        make_image(&rt, &mut rt.stdin(), &mut rt.stdout()),
+    )
 }

@@ -3,20 +3,22 @@
 #![tactic(auto)]
 
 use report::input::{INPUT_ROOM, LISTING_ROOM, list_input};
-use std::io::{self, Write};
+use std::io::{Read, Write};
 use std::process::ExitCode;
 use stdio::{Failure, exit_code, read_all};
 
-fn print_listing(rt: &(impl Input + Print)) -> Result<(), Failure> {
+fn print_listing(reader: &mut impl Read, writer: &mut impl Write) -> Result<(), Failure> {
     let mut input = [0u8; INPUT_ROOM];
     let mut out = [0u8; LISTING_ROOM];
-    let n = read_all(&mut rt.reader(), &mut input).map_err(|_| Failure::Input)?;
+    let n = read_all(reader, &mut input).map_err(|_| Failure::Input)?;
     let end = list_input(&input, n, &mut out);
-    io::writer(rt)
-        .write_all(&out[..end])
-        .map_err(|_| Failure::Output)
+    writer.write_all(&out[..end]).map_err(|_| Failure::Output)
 }
 
 fn main(rt: HostRuntime) -> ExitCode {
-    exit_code(&rt, "listing", print_listing(&rt))
+    exit_code(
+        &rt,
+        "listing",
+        print_listing(&mut rt.stdin(), &mut rt.stdout()),
+    )
 }
