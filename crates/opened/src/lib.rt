@@ -6,7 +6,7 @@ ghost use Rattle.opened.specs.Appending.{opened_by, advanced_by};
 
 use counts::WriteAmplification;
 use journal::Journal;
-use numbers::refused::{NO_GEOMETRY, NONE, Refused, apart};
+use numbers::refused::{NO_GEOMETRY, Refused, apart};
 use progress::{Advanced, Progress};
 use waymaker_core::error::Refusal;
 
@@ -27,28 +27,12 @@ pub struct AdvancedJournal {
     pub written: WriteAmplification,
 }
 
-const UNWRITTEN: WriteAmplification = WriteAmplification {
-    payload_bytes: 0,
-    programmed_bytes: 0,
-    program_operations: 0,
-    barriers: 0,
-};
-
-const NO_JOURNAL: Journal = Journal {
-    geometry: NO_GEOMETRY,
-    offset: 0,
-    phase: 0,
-    body_len: 0,
-    payload_len: 0,
-    frame_crc: 0,
-    written: UNWRITTEN,
-};
-
 impl From<Result<Journal, Refusal>> for OpenedJournal {
     ghost from_gives = { λ opening given. given ≡ opened_by opening };
 
     fn from(opening: Result<Journal, Refusal>) -> OpenedJournal {
-        let (refused, journal) = apart(opening, NO_JOURNAL);
+        let none = Journal::idle(NO_GEOMETRY, 0, WriteAmplification::NONE);
+        let (refused, journal) = apart(opening, none);
         OpenedJournal { refused, journal }
     }
 }
@@ -57,11 +41,11 @@ impl From<Advanced> for AdvancedJournal {
     ghost from_gives = { λ advanced given. given ≡ advanced_by advanced };
 
     fn from(advanced: Advanced) -> AdvancedJournal {
-        let (refused, written) = match advanced.progress {
-            Ok(Progress::Committed(written)) => (NONE, written),
-            Ok(_) => (NONE, UNWRITTEN),
-            Err(refusal) => (Refused::from(refusal), UNWRITTEN),
-        };
+        let own = advanced.progress.map(|progress| match progress {
+            Progress::Committed(written) => written,
+            _ => WriteAmplification::NONE,
+        });
+        let (refused, written) = apart(own, WriteAmplification::NONE);
         AdvancedJournal {
             journal: advanced.journal,
             refused,

@@ -35,25 +35,13 @@ struct Device {
 impl Device {
     // Erased, with a ready journal of these settings.
     fn new(bytes: u32, program_size: u32) -> Self {
+        let geometry = Geometry {
+            bytes,
+            program_size,
+            read_size: 1,
+        };
         Device {
-            journal: Journal {
-                geometry: Geometry {
-                    bytes,
-                    program_size,
-                    read_size: 1,
-                },
-                offset: 0,
-                phase: 0,
-                body_len: 0,
-                payload_len: 0,
-                frame_crc: 0,
-                written: WriteAmplification {
-                    payload_bytes: 0,
-                    programmed_bytes: 0,
-                    program_operations: 0,
-                    barriers: 0,
-                },
-            },
+            journal: Journal::idle(geometry, 0, WriteAmplification::NONE),
             region: [255; 64],
             page: [0; 24],
         }
