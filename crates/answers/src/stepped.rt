@@ -4,14 +4,14 @@ ghost use Rattle.answers.specs.Stepping.{found_as, no_found, ending_of, recovery
 ghost use Rattle.answers.specs.Stepping.{scan_of, scan_state_of, scan_step_by, finding_by};
 ghost use Rattle.numbers.specs.Refusing.{not_refused, refused_by};
 
-use numbers::decoded::{NO_PART, NO_RECORD, ReadRecord};
+use numbers::decoded::ReadRecord;
 use numbers::refused::{NONE, Refused, apart};
 use place::Sealed;
 use recovery::next::{Ending, Found, Recovery, Stepped};
 use scan::{Scan, ScanStepped};
 use storage::geometry::Geometry;
 use waymaker_core::error::Refusal;
-use waymaker_core::record::{Part, Record};
+use waymaker_core::record::{NO_PART, NO_RECORD, Part, Record};
 
 // A sealed record: its offset, its length with padding and slot, and its parts, counted from its own start.
 #[repr(C)]

@@ -5,12 +5,8 @@ ghost use Rattle.numbers.specs.Reading.{read_as, unknown_as, frame_by, decoded_b
 use crate::refused::{NONE, Refused};
 use decode::Frame;
 use payload::Decoded;
-use waymaker_core::activity::ActivityKind;
 use waymaker_core::error::{DecodeError, Refusal};
-use waymaker_core::id::EffectSeq;
-use waymaker_core::record::{Part, Record, RecordKind, RecordRef};
-use waymaker_core::timer::ClockKind;
-use waymaker_core::version::GateId;
+use waymaker_core::record::{NO_PART, NO_RECORD, Part, Record, RecordKind, RecordRef};
 
 // A record as it was found, in the form in which it is given, and its free bytes as a part of what it was read from.
 // Numbers that its kind lacks are 0.
@@ -34,24 +30,6 @@ pub struct DecodedFrame {
     pub frame_len: usize,
     pub frame_crc: u32,
 }
-
-pub const NO_PART: Part = Part { place: 0, len: 0 };
-
-// What stands where there is no record.
-pub const NO_RECORD: Record = Record {
-    kind: RecordKind(0),
-    seq: EffectSeq(0),
-    workflow_kind: 0,
-    workflow_version: 0,
-    activity: ActivityKind(0),
-    input_len: 0,
-    input_crc: 0,
-    clock_kind: ClockKind(0),
-    deadline: 0,
-    armed_at: 0,
-    gate: GateId(0),
-    version: 0,
-};
 
 // What stands where there is no frame.
 const NO_FRAME: DecodedFrame = DecodedFrame {

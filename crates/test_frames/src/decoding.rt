@@ -8,9 +8,7 @@ use payload::Decoded;
 use testing::parts::array;
 use waymaker_core::error::DecodeError;
 use waymaker_core::id::EffectSeq;
-use waymaker_core::record::{Part, RecordKind, RecordRef};
-
-const NO_PART: Part = Part { place: 0, len: 0 };
+use waymaker_core::record::{NO_PART, Part, RecordKind, RecordRef};
 
 // What a frame says, whatever its kind.
 #[derive(Clone, Copy, PartialEq, Eq)]

@@ -1,7 +1,7 @@
 // What a case has for our answer, of which each piece is taken off the front as ours is made; none where the case has
 // another there.
 use counts::WriteAmplification;
-use numbers::decoded::{NO_PART, ReadRecord};
+use numbers::decoded::ReadRecord;
 use testing::records::record;
 use waymaker_core::error::Refusal;
 use waymaker_core::id::EffectSeq;
