@@ -15,6 +15,7 @@ use std::io::{self, Read};
 use testing::tally::Tally;
 use vectors::Vectors;
 
+// Numbers of the file, and no enum: it would be matched once more, to be read.
 const ENCODE: u8 = 1;
 
 const DECODE: u8 = 2;

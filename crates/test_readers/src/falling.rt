@@ -4,18 +4,17 @@ use payload_reader::Reader;
 use reader::Reader as Cursor;
 
 #[derive(Clone, Copy, PartialEq)]
-pub(crate) struct Seen {
+pub(crate) struct Seen<'a> {
     // Each number, and where the reader stands then.
     pub eight: (Option<u64>, usize),
     pub four: (Option<u32>, usize),
     pub two: (Option<u16>, usize),
     pub one: (Option<u8>, usize),
-    // How many bytes are left, and the first of them.
-    pub left: usize,
-    pub next: Option<u8>,
+    // What is left.
+    pub rest: &'a [u8],
 }
 
-pub(crate) fn by_reader(payload: &[u8], at: usize) -> Seen {
+pub(crate) fn by_reader(payload: &[u8], at: usize) -> Seen<'_> {
     let mut r = Reader { payload, at };
     let eight = (r.u64(), r.at);
     let four = (r.u32(), r.at);
@@ -27,8 +26,7 @@ pub(crate) fn by_reader(payload: &[u8], at: usize) -> Seen {
         four,
         two,
         one,
-        left: rest.len(),
-        next: rest.first().copied(),
+        rest,
     }
 }
 
@@ -40,7 +38,7 @@ fn past<T>(taken: Option<(T, Cursor)>, at: usize) -> (Option<T>, usize) {
     }
 }
 
-pub(crate) fn by_cursor(payload: &[u8], at: usize) -> Seen {
+pub(crate) fn by_cursor(payload: &[u8], at: usize) -> Seen<'_> {
     let eight = past(Cursor { at }.u64(payload), at);
     let four = past(Cursor { at: eight.1 }.u32(payload), eight.1);
     let two = past(Cursor { at: four.1 }.u16(payload), four.1);
@@ -51,7 +49,6 @@ pub(crate) fn by_cursor(payload: &[u8], at: usize) -> Seen {
         four,
         two,
         one,
-        left: rest.len(),
-        next: rest.first().copied(),
+        rest,
     }
 }

@@ -32,9 +32,13 @@ fn agree(payload: &[u8], at: usize) -> bool {
 
 // Every length to 24, from every place to 27: how many agree.
 fn agreeing(bytes: &[u8]) -> usize {
-    (0..700usize)
-        .filter(|i| agree(first(bytes, *i / 28), *i % 28))
-        .count()
+    (0..=24usize)
+        .map(|n| {
+            (0..=27usize)
+                .filter(|at| agree(first(bytes, n), *at))
+                .count()
+        })
+        .fold(0, usize::saturating_add)
 }
 
 fn show(rt: &impl Print, payload: &[u8], at: usize) -> io::Result<()> {
@@ -42,7 +46,7 @@ fn show(rt: &impl Print, payload: &[u8], at: usize) -> io::Result<()> {
     print!(rt; "of {} bytes, from {at}:", payload.len())?;
     print!(rt; "{}{}", Taken(seen.eight.0), Taken(seen.four.0))?;
     print!(rt; "{}{}", Taken(seen.two.0), Taken(seen.one.0))?;
-    println!(rt; "; at {}, left {}", seen.one.1, seen.left)
+    println!(rt; "; at {}, left {}", seen.one.1, seen.rest.len())
 }
 
 fn main(rt: HostRuntime) -> io::Result<()> {

@@ -27,8 +27,14 @@ fn steps(rt: &impl Print, geometry: Geometry, region: &[u8], page: &mut [u8]) ->
     Ok(())
 }
 
+// The units as the calls take them.
+fn units(geometry: Geometry) -> (usize, usize) {
+    (geometry.program_size as usize, geometry.read_size as usize)
+}
+
 // Three sequences, of which the last is that of the records of a run.
-fn finds(rt: &impl Print, a: usize, r: usize, region: &[u8], page: &mut [u8]) -> io::Result<()> {
+fn finds(rt: &impl Print, geometry: Geometry, region: &[u8], page: &mut [u8]) -> io::Result<()> {
+    let (a, r) = units(geometry);
     for seq in [7, 8, 0] {
         match find(EffectSeq(seq), a, r, region, page) {
             Ok(Some(offset)) => println!(rt; "find {seq}: at {offset}")?,
@@ -39,7 +45,8 @@ fn finds(rt: &impl Print, a: usize, r: usize, region: &[u8], page: &mut [u8]) ->
     Ok(())
 }
 
-fn opens(rt: &impl Print, a: usize, r: usize, region: &[u8], page: &mut [u8]) -> io::Result<()> {
+fn opens(rt: &impl Print, geometry: Geometry, region: &[u8], page: &mut [u8]) -> io::Result<()> {
+    let (a, r) = units(geometry);
     match Journal::open(a, r, region, page) {
         Ok(journal) => println!(rt; "open: ready at {}", journal.offset),
         Err(refusal) => println!(rt; "open: {}", Refused(refusal)),
@@ -47,11 +54,9 @@ fn opens(rt: &impl Print, a: usize, r: usize, region: &[u8], page: &mut [u8]) ->
 }
 
 fn show(rt: &impl Print, geometry: Geometry, region: &[u8], page: &mut [u8]) -> io::Result<()> {
-    let a = geometry.program_size as usize;
-    let r = geometry.read_size as usize;
     steps(rt, geometry, region, page)?;
-    finds(rt, a, r, region, page)?;
-    opens(rt, a, r, region, page)
+    finds(rt, geometry, region, page)?;
+    opens(rt, geometry, region, page)
 }
 
 // A record at a place of the region. One that encode refused would not be found.

@@ -13,6 +13,7 @@ impl fmt::Display for Refused {
     }
 }
 
+// No Display of its own: the type is another crate's.
 fn name(ending: Ending) -> &'static str {
     match ending {
         Ending::Open => "open",
