@@ -103,6 +103,7 @@ impl From<Found> for FoundRecord {
     }
 }
 
+// The same of a scan's, whose offset has another type.
 impl From<scan::Found> for FoundRecord {
     ghost from_gives = { λ found given. given ≡ found_as found.offset found.«record» };
 

@@ -150,7 +150,7 @@ impl From<Result<Frame, DecodeError>> for DecodedFrame {
         match decoding {
             Ok(frame) => DecodedFrame::from(frame),
             Err(error) => DecodedFrame {
-                refused: Refused::from(Refusal::Decode(error)),
+                refused: Refused::from(Refusal::from(error)),
                 ..NO_FRAME
             },
         }

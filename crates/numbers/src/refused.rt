@@ -79,7 +79,7 @@ impl From<Result<usize, DecodeError>> for Length {
     ghost from_gives = { λ size length. length ≡ frame_length_by size };
 
     fn from(size: Result<usize, DecodeError>) -> Length {
-        Length::from(size.map_err(Refusal::Decode))
+        Length::from(size.map_err(Refusal::from))
     }
 }
 

@@ -10,7 +10,8 @@ use numbers::refused::{NO_GEOMETRY, Refused, apart};
 use progress::{Advanced, Progress};
 use waymaker_core::error::Refusal;
 
-// The journal is all 0 where the opening is refused.
+// C has no Result: the refusal stands beside the value, here and below. The journal is all 0 where the opening is
+// refused.
 #[repr(C)]
 #[derive(Clone, Copy)]
 pub struct OpenedJournal {
@@ -18,7 +19,8 @@ pub struct OpenedJournal {
     pub journal: Journal,
 }
 
-// written is what the record alone wrote, where it was committed, else all 0.
+// C has no enum and knows which step it made: of how far it came only what the record alone wrote is left, all 0 where
+// it was not committed.
 #[repr(C)]
 #[derive(Clone, Copy)]
 pub struct AdvancedJournal {

@@ -8,7 +8,14 @@ use payload::Decoded;
 use testing::parts::array;
 use waymaker_core::error::DecodeError;
 use waymaker_core::id::EffectSeq;
+<<<<<<< HEAD
 use waymaker_core::record::{NO_PART, Part, RecordKind, RecordRef};
+=======
+use waymaker_core::record::{Part, RecordKind, RecordRef};
+
+// That of crate numbers, of which this program uses nothing else.
+const NO_PART: Part = Part { place: 0, len: 0 };
+>>>>>>> 9cb2833ba0825bf1dfc4154b784801c393ae9da4
 
 // What a frame says, whatever its kind.
 #[derive(Clone, Copy, PartialEq, Eq)]
@@ -124,10 +131,14 @@ fn wanted_by(vector: &mut &[u8]) -> Option<Said> {
     })
 }
 
-// Whether frame_len_of gives this length, or the refusal with this number (0 if there is none).
+// This length, or the refusal with this number (0 if there is none).
+pub(crate) fn len_wanted(refusal: u8, len: usize) -> Result<usize, u8> {
+    if refusal == 0 { Ok(len) } else { Err(refusal) }
+}
+
+// Whether frame_len_of gives it.
 pub(crate) fn frame_len_agrees(bytes: &[u8], refusal: u8, len: usize) -> bool {
-    let wanted = if refusal == 0 { Ok(len) } else { Err(refusal) };
-    frame_len_of(bytes).map_err(DecodeError::number) == wanted
+    frame_len_of(bytes).map_err(DecodeError::number) == len_wanted(refusal, len)
 }
 
 // None where the vector is cut short.

@@ -38,11 +38,11 @@ const INPUTS: [(&str, &[u8]); 19] = [
 ];
 
 // Prints a name and the listing of an input.
-fn show(rt: &HostRuntime, name: &str, input: &[u8]) -> io::Result<()> {
+fn show(rt: &impl Print, name: &str, input: &[u8]) -> io::Result<()> {
     let mut out = [0u8; 64];
     let end = list(input, &mut out);
     rt.print(name)?;
-    rt.stdout().write_all(&out[..end])
+    io::writer(rt).write_all(&out[..end])
 }
 
 fn main(rt: HostRuntime) -> io::Result<()> {

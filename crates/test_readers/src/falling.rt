@@ -25,7 +25,11 @@ pub(crate) fn by_reader(payload: &[u8], at: usize) -> Seen<'_> {
         four,
         two,
         one,
+<<<<<<< HEAD
         rest: r.rest(),
+=======
+        rest,
+>>>>>>> 9cb2833ba0825bf1dfc4154b784801c393ae9da4
     }
 }
 
@@ -47,6 +51,10 @@ pub(crate) fn by_cursor(payload: &[u8], at: usize) -> Seen<'_> {
         four,
         two,
         one,
+<<<<<<< HEAD
         rest: Cursor { at: one.1 }.rest(payload),
+=======
+        rest,
+>>>>>>> 9cb2833ba0825bf1dfc4154b784801c393ae9da4
     }
 }

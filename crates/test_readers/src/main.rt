@@ -32,6 +32,7 @@ fn agree(payload: &[u8], at: usize) -> bool {
 }
 
 // Every length to 24, from every place to 27: how many agree.
+<<<<<<< HEAD
 fn agreeing(bytes: &[u8]) -> Tally {
     let mut tally = Tally::default();
     for len in 0..25 {
@@ -40,6 +41,16 @@ fn agreeing(bytes: &[u8]) -> Tally {
         }
     }
     tally
+=======
+fn agreeing(bytes: &[u8]) -> usize {
+    (0..=24usize)
+        .map(|n| {
+            (0..=27usize)
+                .filter(|at| agree(first(bytes, n), *at))
+                .count()
+        })
+        .fold(0, usize::saturating_add)
+>>>>>>> 9cb2833ba0825bf1dfc4154b784801c393ae9da4
 }
 
 fn show(rt: &impl Print, payload: &[u8], at: usize) -> io::Result<()> {

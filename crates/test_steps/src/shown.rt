@@ -13,7 +13,7 @@ impl fmt::Display for Refused {
     }
 }
 
-// Ending is another crate's: to print it by Display would take a struct around it.
+// No Display of its own: the type is another crate's.
 fn name(ending: Ending) -> &'static str {
     match ending {
         Ending::Open => "open",

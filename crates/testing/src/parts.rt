@@ -11,7 +11,8 @@ pub fn first(v: &[u8], n: usize) -> &[u8]
 
 // The next N bytes, taken off the front. Where there are fewer nothing is taken.
 pub fn array<const N: usize>(left: &mut &[u8]) -> Option<[u8; N]>
-    ensures { MatchOption result ((length left.old.now < N) × (left.new.now ≡ left.old.now)) (λ front. (front ≡ take N left.old.now) × (left.new.now ≡ drop N left.old.now)) }
+    ensures { MatchOption result ((length left.old.now < N) × (left.new.now ≡ left.old.now))
+        (λ front. (front ≡ take N left.old.now) × (left.new.now ≡ drop N left.old.now)) }
 {
     let (front, rest) = left.split_first_chunk()?;
     *left = rest;
@@ -20,7 +21,9 @@ pub fn array<const N: usize>(left: &mut &[u8]) -> Option<[u8; N]>
 
 // The next bytes with their number before them, which has two bytes; none where fewer are left than it says.
 pub fn counted<'a>(left: &mut &'a [u8]) -> Option<&'a [u8]>
-    ensures { MatchOption result (left.new.now ≡ left.old.now) (λ front. (left.old.now ≡ take 2 left.old.now ++ front.now ++ left.new.now) × (length front.now ≡ from_le_bytes w16 (take 2 left.old.now))) }
+    ensures { MatchOption result (left.new.now ≡ left.old.now)
+        (λ front. (left.old.now ≡ take 2 left.old.now ++ front.now ++ left.new.now)
+        × (length front.now ≡ from_le_bytes w16 (take 2 left.old.now))) }
 {
     let mut behind = *left;
     let n = u16::from_le_bytes(array(&mut behind)?);

@@ -20,7 +20,8 @@ fn part<const N: usize>(bytes: &[u8; 38], at: usize) -> [u8; N]
 
 // Takes a record off the front. Where fewer bytes are left nothing is taken.
 pub fn record(left: &mut &[u8]) -> Option<Record>
-    ensures { MatchOption result ((length left.old.now < 38) × (left.new.now ≡ left.old.now)) (λ r. (r ≡ record_in (take 38 left.old.now)) × (left.new.now ≡ drop 38 left.old.now)) }
+    ensures { MatchOption result ((length left.old.now < 38) × (left.new.now ≡ left.old.now))
+        (λ r. (r ≡ record_in (take 38 left.old.now)) × (left.new.now ≡ drop 38 left.old.now)) }
 {
     let bytes = array(left)?;
     Some(Record {
