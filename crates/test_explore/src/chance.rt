@@ -10,43 +10,40 @@ use waymaker_core::record::RecordKind;
 // How many sequences are tried.
 const BUDGET: u32 = 20000;
 
-// What the record is, and what its first n bytes may read as; the sequence of the latter has these bits more.
+// What the record is, and what its first n bytes may read as. The sequence of the one is 0 here, where those that are
+// tried stand, and of the other the bits that it has more.
 #[derive(Clone, Copy)]
 struct Pair {
-    kind: RecordKind,
-    len: usize,
-    as_kind: RecordKind,
-    as_len: usize,
-    bits: u32,
+    item: Item,
+    front: Item,
     n: usize,
 }
 
 impl Pair {
     // Both have payloads of this length.
     fn new(kind: RecordKind, as_kind: RecordKind, len: usize, bits: u32, n: usize) -> Self {
-        Pair {
-            kind,
+        let item = Item { kind, seq: 0, len };
+        let front = Item {
+            kind: as_kind,
+            seq: bits,
             len,
-            as_kind,
-            as_len: len,
-            bits,
-            n,
-        }
+        };
+        Pair { item, front, n }
     }
 }
 
 // Header checks that agree: one bit of the sequence more, another kind (of 4 and of 2, which is not skipped), and a
 // payload's length that reads as 4 and not 0.
 pub(crate) fn headers(a: u32) -> Tally {
+    let empty = Item {
+        kind: RecordKind::EFFECT_COMPLETED,
+        seq: 0,
+        len: 0,
+    };
     let longer = Pair {
-        as_len: 4,
-        ..Pair::new(
-            RecordKind::EFFECT_COMPLETED,
-            RecordKind::EFFECT_COMPLETED,
-            0,
-            0,
-            12,
-        )
+        item: empty,
+        front: Item { len: 4, ..empty },
+        n: 12,
     };
     search(
         a,
@@ -115,17 +112,11 @@ fn covers(x: &[u8], y: &[u8]) -> bool {
 }
 
 fn one_seq(tally: &mut Tally, a: u32, pair: Pair, seq: u32) {
-    let item = Item {
-        kind: pair.kind,
-        seq,
-        len: pair.len,
-    };
-    let other = Item {
-        kind: pair.as_kind,
-        seq: seq | pair.bits,
-        len: pair.as_len,
-    };
-    let front = laid(other);
+    let item = Item { seq, ..pair.item };
+    let front = laid(Item {
+        seq: seq | pair.front.seq,
+        ..pair.front
+    });
     if covers(first(&laid(item), pair.n), &front) {
         cuts(
             tally,

@@ -52,7 +52,7 @@ impl Device {
     // Whether recovery finds these items, in order, and nothing else.
     pub(crate) fn finds(&mut self, items: [Option<Item>; 3]) -> bool {
         let mut state = Recovery::new(Geometry {
-            bytes: 96,
+            bytes: N as u32,
             program_size: self.a,
             read_size: 1,
         });
