@@ -10,26 +10,25 @@ use waymaker_core::record::RecordKind;
 // How many sequences are tried.
 const BUDGET: u32 = 20000;
 
-// A record of any sequence, and the one that its first n bytes may read as, whose sequence has these bits more.
+// What the record is, and what its first n bytes may read as. The sequence of the one is 0 here, where those that are
+// tried stand, and of the other the bits that it has more.
 #[derive(Clone, Copy)]
 struct Pair {
     item: Item,
-    other: Item,
+    front: Item,
     n: usize,
 }
 
 impl Pair {
     // Both have payloads of this length.
     fn new(kind: RecordKind, as_kind: RecordKind, len: usize, bits: u32, n: usize) -> Self {
-        Pair {
-            item: Item { kind, seq: 0, len },
-            other: Item {
-                kind: as_kind,
-                seq: bits,
-                len,
-            },
-            n,
-        }
+        let item = Item { kind, seq: 0, len };
+        let front = Item {
+            kind: as_kind,
+            seq: bits,
+            len,
+        };
+        Pair { item, front, n }
     }
 }
 
@@ -43,7 +42,7 @@ pub(crate) fn headers(a: u32) -> Tally {
     };
     let longer = Pair {
         item: empty,
-        other: Item { len: 4, ..empty },
+        front: Item { len: 4, ..empty },
         n: 12,
     };
     search(
@@ -114,11 +113,10 @@ fn covers(x: &[u8], y: &[u8]) -> bool {
 
 fn one_seq(tally: &mut Tally, a: u32, pair: Pair, seq: u32) {
     let item = Item { seq, ..pair.item };
-    let other = Item {
-        seq: seq | pair.other.seq,
-        ..pair.other
-    };
-    let front = laid(other);
+    let front = laid(Item {
+        seq: seq | pair.front.seq,
+        ..pair.front
+    });
     if covers(first(&laid(item), pair.n), &front) {
         cuts(
             tally,

@@ -24,12 +24,11 @@ pub(crate) struct Cut {
     whole: Device,
 }
 
-// A mask of the bits that are left old.
+// A mask of the bits that are left old. It goes over bits, of which there is no slice.
 fn mask<F: Fn(usize) -> bool>(left: F) -> [u8; MOST]
     requires { F.IsAlwaysCallable left }
 {
     let mut mask = [0; MOST];
-    // Over the bits, of which a byte has eight.
     for k in 0..8 * MOST {
         if left(k) {
             mask[k / 8] |= 1 << (k % 8);
@@ -107,7 +106,7 @@ impl Cut {
         self.tried(false, device)
     }
 
-    // Of the 0 bits of the seal, every set is left old once. The sets count down, from all bits to none.
+    // Of the 0 bits of the seal, every set is left old once: there is no slice of sets to go over.
     pub(crate) fn slots(&self, tally: &mut Tally) {
         let zeros = self.whole.zeros(self.slot);
         let mut bits = zeros;

@@ -59,7 +59,7 @@ pub(crate) fn decodes(mut case: &[u8]) -> Option<()> {
     let bytes = counted(&mut case)?;
     let mut answer = Answer(case);
     let decoded = decode(bytes);
-    answer.refused(decoded.err().map(Refusal::Decode))?;
+    answer.refused(decoded.err().map(Refusal::from))?;
     if let Ok(frame) = decoded {
         said(&mut answer, frame)?;
     }
