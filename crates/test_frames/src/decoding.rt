@@ -8,15 +8,9 @@ use payload::Decoded;
 use testing::parts::array;
 use waymaker_core::error::DecodeError;
 use waymaker_core::id::EffectSeq;
-<<<<<<< HEAD
 use waymaker_core::record::{NO_PART, Part, RecordKind, RecordRef};
-=======
-use waymaker_core::record::{Part, RecordKind, RecordRef};
 
 // That of crate numbers, of which this program uses nothing else.
-const NO_PART: Part = Part { place: 0, len: 0 };
->>>>>>> 9cb2833ba0825bf1dfc4154b784801c393ae9da4
-
 // What a frame says, whatever its kind.
 #[derive(Clone, Copy, PartialEq, Eq)]
 struct Said {

@@ -21,12 +21,7 @@ pub(crate) fn encode_agrees(mut vector: &[u8]) -> Option<bool> {
     let free = counted(&mut vector)?;
     let mut page = [FILL; PAGE];
     let answer = encode(given, free, align, page.get_mut(..usize::from(room))?);
-<<<<<<< HEAD
-    // Both numbers, as the vector has them: a refusal comes with length 0.
-    let said = answer.map_or_else(|refused| (refused.number(), 0), |n| (0, n));
-=======
     let wanted = len_wanted(refusal, len);
->>>>>>> 9cb2833ba0825bf1dfc4154b784801c393ae9da4
     let (bytes, behind) = page.split_at_checked(vector.len())?;
     Some(
         answer.map_err(Refusal::number) == wanted

@@ -15,11 +15,7 @@ use std::io::{self, Read};
 use testing::tally::Tally;
 use vectors::Vectors;
 
-<<<<<<< HEAD
-// The tags. They are read in one match, which passes over any other; an enum would have that match twice.
-=======
 // Numbers of the file, and no enum: it would be matched once more, to be read.
->>>>>>> 9cb2833ba0825bf1dfc4154b784801c393ae9da4
 const ENCODE: u8 = 1;
 
 const DECODE: u8 = 2;

@@ -20,16 +20,13 @@ pub(crate) fn by_reader(payload: &[u8], at: usize) -> Seen<'_> {
     let four = (r.u32(), r.at);
     let two = (r.u16(), r.at);
     let one = (r.u8(), r.at);
+    let rest = r.rest();
     Seen {
         eight,
         four,
         two,
         one,
-<<<<<<< HEAD
-        rest: r.rest(),
-=======
         rest,
->>>>>>> 9cb2833ba0825bf1dfc4154b784801c393ae9da4
     }
 }
 
@@ -46,15 +43,12 @@ pub(crate) fn by_cursor(payload: &[u8], at: usize) -> Seen<'_> {
     let four = past(Cursor { at: eight.1 }.u32(payload), eight.1);
     let two = past(Cursor { at: four.1 }.u16(payload), four.1);
     let one = past(Cursor { at: two.1 }.u8(payload), two.1);
+    let rest = Cursor { at: one.1 }.rest(payload);
     Seen {
         eight,
         four,
         two,
         one,
-<<<<<<< HEAD
-        rest: Cursor { at: one.1 }.rest(payload),
-=======
         rest,
->>>>>>> 9cb2833ba0825bf1dfc4154b784801c393ae9da4
     }
 }

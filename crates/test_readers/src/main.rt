@@ -9,7 +9,6 @@ use falling::{by_cursor, by_reader};
 use started::{show_started, start_agrees};
 use std::{fmt, io};
 use testing::parts::first;
-use testing::tally::Tally;
 
 const BYTES: &[u8] =
     b"\x01\x02\x03\x04\x05\x06\x07\x08\xf1\xf2\xf3\xf4\xf5\xf6\xf7\xf8\x11\x12\x13\x14\x15\x16\x17\x18";
@@ -32,16 +31,6 @@ fn agree(payload: &[u8], at: usize) -> bool {
 }
 
 // Every length to 24, from every place to 27: how many agree.
-<<<<<<< HEAD
-fn agreeing(bytes: &[u8]) -> Tally {
-    let mut tally = Tally::default();
-    for len in 0..25 {
-        for at in 0..28 {
-            tally.add(agree(first(bytes, len), at));
-        }
-    }
-    tally
-=======
 fn agreeing(bytes: &[u8]) -> usize {
     (0..=24usize)
         .map(|n| {
@@ -50,7 +39,6 @@ fn agreeing(bytes: &[u8]) -> usize {
                 .count()
         })
         .fold(0, usize::saturating_add)
->>>>>>> 9cb2833ba0825bf1dfc4154b784801c393ae9da4
 }
 
 fn show(rt: &impl Print, payload: &[u8], at: usize) -> io::Result<()> {
@@ -71,5 +59,5 @@ fn main(rt: HostRuntime) -> io::Result<()> {
     for n in [3, 4, 24] {
         show_started(&rt, first(BYTES, n))?;
     }
-    println!(rt; "agree: {} of 700", agreeing(BYTES).good)
+    println!(rt; "agree: {} of 700", agreeing(BYTES))
 }

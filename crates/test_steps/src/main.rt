@@ -34,12 +34,7 @@ fn units(geometry: Geometry) -> (usize, usize) {
 
 // Three sequences, of which the last is that of the records of a run.
 fn finds(rt: &impl Print, geometry: Geometry, region: &[u8], page: &mut [u8]) -> io::Result<()> {
-<<<<<<< HEAD
-    let a = geometry.program_size as usize;
-    let r = geometry.read_size as usize;
-=======
     let (a, r) = units(geometry);
->>>>>>> 9cb2833ba0825bf1dfc4154b784801c393ae9da4
     for seq in [7, 8, 0] {
         match find(EffectSeq(seq), a, r, region, page) {
             Ok(Some(offset)) => println!(rt; "find {seq}: at {offset}")?,
@@ -51,12 +46,7 @@ fn finds(rt: &impl Print, geometry: Geometry, region: &[u8], page: &mut [u8]) ->
 }
 
 fn opens(rt: &impl Print, geometry: Geometry, region: &[u8], page: &mut [u8]) -> io::Result<()> {
-<<<<<<< HEAD
-    let a = geometry.program_size as usize;
-    let r = geometry.read_size as usize;
-=======
     let (a, r) = units(geometry);
->>>>>>> 9cb2833ba0825bf1dfc4154b784801c393ae9da4
     match Journal::open(a, r, region, page) {
         Ok(journal) => println!(rt; "open: ready at {}", journal.offset),
         Err(refusal) => println!(rt; "open: {}", Refused(refusal)),
