@@ -10,7 +10,6 @@ use waymaker_core::error::DecodeError;
 use waymaker_core::id::EffectSeq;
 use waymaker_core::record::{NO_PART, Part, RecordKind, RecordRef};
 
-// That of crate numbers, of which this program uses nothing else.
 // What a frame says, whatever its kind.
 #[derive(Clone, Copy, PartialEq, Eq)]
 struct Said {
