@@ -5,7 +5,7 @@ use numbers::decoded::ReadRecord;
 use testing::records::record;
 use waymaker_core::error::Refusal;
 use waymaker_core::id::EffectSeq;
-use waymaker_core::record::{Record, RecordKind, RecordRef};
+use waymaker_core::record::{NO_PART, Record, RecordKind, RecordRef};
 
 #[derive(Clone, Copy)]
 pub(crate) struct Answer<'a>(pub &'a [u8]);
