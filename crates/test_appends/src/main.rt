@@ -12,7 +12,7 @@ use waymaker_core::id::EffectSeq;
 use waymaker_core::record::{Record, RecordKind};
 use waymaker_core::timer::ClockKind;
 
-// A step of an append.
+// A step of an append. Of test_lents' the first takes free bytes beside the record.
 #[derive(Clone, Copy)]
 enum Call {
     Stage(Record),

@@ -4,7 +4,7 @@ use progress::{Advanced, Progress};
 use std::fmt;
 use waymaker_core::error::Refusal;
 
-// A refusal's number, and the values that come with it.
+// A refusal's number, and the values that come with it: one more than test_steps prints.
 #[derive(Clone, Copy)]
 pub(crate) struct Refused(pub Refusal);
 

@@ -59,7 +59,8 @@ fn show(rt: &impl Print, geometry: Geometry, region: &[u8], page: &mut [u8]) -> 
     opens(rt, geometry, region, page)
 }
 
-// A record at a place of the region. One that encode refused would not be found.
+// A record at a place of the region, as in the program that makes the images, which shares no crate with the tests. One
+// that encode refused would not be found.
 fn put(region: &mut [u8; 96], at: usize, record: Record, free: &[u8]) {
     if let Some(out) = region.get_mut(at..) {
         let _ = encode(record, free, 4, out);

@@ -7,8 +7,8 @@ ghost use Rattle.text.specs.Pieces.{Lays, Parts};
 ghost use Rattle.text.specs.Inside.{with_digit, read_from};
 
 // Lent bytes, and the place where the next piece of text goes. What does not fit is left out, so that no piece of a
-// line asks for room on its own. Pieces are put one by one: what `write!` writes is promised only where it answers `Ok`,
-// and nothing promises that it does.
+// line asks for room on its own. Pieces are put one by one: what `write!` writes is promised only where it answers
+// `Ok`, and nothing promises that it does.
 #[derive(Drop)]
 pub struct Output<'a> {
     pub bytes: &'a mut [u8],
@@ -84,8 +84,8 @@ fn value_of(s: &[u8]) -> Option<u64>
     s.iter().try_fold(0, |v, &b| with_digit(v, b))
 }
 
-// The number that a text is, in decimal as put_decimal writes it, where 64 bits hold it. `str::parse` takes more: a sign,
-// and zeros in front.
+// The number that a text is, in decimal as put_decimal writes it, where 64 bits hold it. `str::parse` takes more: a
+// sign, and zeros in front.
 pub fn number_of(s: &[u8]) -> Option<u64>
     ensures { result ≡ number_of s.now }
 {
