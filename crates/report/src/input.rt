@@ -57,6 +57,7 @@ fn put_region(out: &mut Output, units: Units, region: &[u8])
 }
 
 // Puts the listing of an input.
+#[tactic(auto, unfolding(crate::specs::Report::listing))]
 fn put_listing(out: &mut Output, input: &[u8])
     ensures { Lays out.old (listing input.now) out.new }
 {
@@ -81,6 +82,7 @@ pub fn list(input: &[u8], out: &mut [u8]) -> usize
 
 // The listing of the input whose first n bytes stand in the array.
 // The count stands beside the array since a slice of n bytes would not say whether more of the input had found room.
+#[tactic(auto, using(crate::proofs::Beginnings::lists_whole))]
 pub fn list_input(input: &[u8; INPUT_ROOM], n: usize, out: &mut [u8; LISTING_ROOM]) -> usize
     ensures { Lists input.now n out.old result out.new }
 {

@@ -3,13 +3,13 @@
 use mathlib.Core.Path.{◌≡◌, refl, sym, ap, ap₂, subst, ◌∙◌}
 use mathlib.Core.Bool.{Bool, true, false, cond, ◌&&◌, and-false, and-true}
 use mathlib.Core.List.{List, [], ◌∷◌}
-use Prim.Native.Nat.{ℕ, ◌+◌, ◌-◌, ◌*◌, ◌^◌, ◌<◌, ◌≤◌}
+use Prim.Native.Nat.{ℕ, ◌+◌, ◌-◌, ◌*◌, ◌<◌, ◌≤◌}
 use native.Mathlib.Omega.{arith}
 use lib.Dec.{leb}
 use lib.ListN.{length, get_or}
-use borrow.Author.Tests.{le-leb, lt-leb, eq-eqb, ne_eqb, lt-ltb, leb-true, leb-false}
+use borrow.Author.Tests.{le-leb, lt-leb, ne_eqb, lt-ltb, leb-true, leb-false}
 use Rattle.std.proofs.Common.{Option, Some, None}
-use Rattle.std.specs.Option.{SomeIff, MatchOption}
+use Rattle.std.specs.Option.{MatchOption}
 use Rattle.std.specs.Borrow.{Bor}
 use Rattle.std.specs.Fn.{Called, Mut}
 use Rattle.std.specs.Iterator.{Yields, TryFoldTurn, TryFoldsItems}
@@ -21,22 +21,6 @@ use Rattle.std.specs.declared.ops.ControlFlow.TheVariants.{Continue, Break}
 use Rattle.std.specs.declared.slice.Iter.{Iter}
 use Rattle.text.specs.Text.{is_digit, all_digits, is_decimal, value_from, most, number_of}
 use Rattle.text.specs.Inside.{with_digit, read_from}
-
--- one more digit, by the tests that the code makes
-module _ (v b : ℕ) where
-  pub digit_none : is_digit b ≡ false → None ≡ with_digit v b
-  unfolding with_digit
-  digit_none e = rw e
-
-  pub digit_over : most < v * 10 + (b - 48) → None ≡ with_digit v b
-  unfolding with_digit
-  digit_over h = rw (lt-leb (v * 10 + (b - 48)) most h, and-false)
-
-  -- r: the sum, where it fits
-  pub digit_added : (r : Option ℕ) (t : ℕ) → is_digit b ≡ true → t ≡ v * 10 → SomeIff r (t + (b - 48) < 2 ^ 64) (t + (b - 48)) → r ≡ with_digit v b
-  unfolding with_digit
-  digit_added None t d e h = digit_over (omega (arith, e, h))
-  digit_added (Some x) t d e h = rw (d, le-leb (v * 10 + (b - 48)) most (omega (arith, e, h.0)), h.1, e)
 
 -- what one more digit makes is of 64 bits
 digit_fits : (v b x : ℕ) → Some x ≡ with_digit v b → x ≤ most
@@ -118,10 +102,6 @@ module _ {F : Type 0} (g : Mut F (ℕ × (Bor ℕ × Unit {0})) (Option ℕ)) (f
 
 -- r: what the digits made
 module _ (s : List ℕ) where
-  pub number_none : length s ≡ 0 → None ≡ number_of s
-  unfolding number_of is_decimal
-  number_none e = rw e
-
   pub number_one : (r : Option ℕ) → length s ≡ 1 → r ≡ read_from 0 s → r ≡ number_of s
   unfolding number_of is_decimal read_from
   number_one r e f = f ∙ rw (e, and-true)
@@ -132,10 +112,6 @@ module _ (s : List ℕ) where
 
     more : length s ≡ 1 → ⊥
     more e = omega (arith, e)
-
-    pub number_zero : get_or s 0 0 ≡ 48 → None ≡ number_of s
-    unfolding number_of is_decimal
-    number_zero e = rw (ne_eqb _ _ more, eq-eqb _ _ e, and-false)
 
     pub number_more : (r : Option ℕ) → (get_or s 0 0 ≡ 48 → ⊥) → r ≡ read_from 0 s → r ≡ number_of s
     unfolding number_of is_decimal read_from

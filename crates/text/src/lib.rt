@@ -68,6 +68,7 @@ pub fn split_once(s: &[u8], b: u8) -> Option<(&[u8], &[u8])>
 }
 
 // A number with one more digit behind its own, where the byte is a digit and 64 bits hold it.
+#[tactic(auto, unfolding(crate::specs::Inside::with_digit))]
 fn with_digit(v: u64, b: u8) -> Option<u64>
     ensures { result ≡ with_digit v b }
 {
@@ -86,6 +87,7 @@ fn value_of(s: &[u8]) -> Option<u64>
 
 // The number that a text is, in decimal as put_decimal writes it, where 64 bits hold it. `str::parse` takes more: a
 // sign, and zeros in front.
+#[tactic(auto, using(crate::proofs::Numbers::number_more, crate::proofs::Numbers::number_one), unfolding(crate::specs::Text::is_decimal, crate::specs::Text::number_of))]
 pub fn number_of(s: &[u8]) -> Option<u64>
     ensures { result ≡ number_of s.now }
 {
