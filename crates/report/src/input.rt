@@ -25,6 +25,7 @@ pub struct Units {
 }
 
 // The two units of a line, where it is two numbers with a comma between them.
+#[tactic(auto, unfolding(crate::specs::Report::units_of))]
 fn units_of(line: &[u8]) -> Option<Units>
     ensures { result ≡ units_of line.now }
 {

@@ -52,6 +52,7 @@ fn read_from<R: Read>(reader: &mut R, buf: &mut [u8], from: usize) -> io::Result
 
 // Reads until the buffer is full or the input ends: how many bytes came. A read that fails is not taken for the end.
 // Of std's own, `read_exact` says nothing of how many came, and `read_to_end` wants a heap.
+#[tactic(auto, using(crate::proofs::Reading::reads_on))]
 pub fn read_all<R: Read>(reader: &mut R, buf: &mut [u8]) -> io::Result<usize>
     ensures within { ReadsInput 0 buf.new result }
     ensures bytes { GivesConsumed 0 (R.remaining reader.old) (R.remaining reader.new) buf.new result }

@@ -1,4 +1,5 @@
 -- `text::split_once` meets its contract: the search answers the place that the definition says.
+-- Tried with the definitions and these laws named on the function: the check does not find it alone.
 use Rattle.std.proofs.Common.{rules, tests, nat_eq, ◌≡◌, ◌+◌, take, drop, ap, ◌∙◌}
 use Rattle.std.proofs.lemmas.Iterator.{YieldsList-from_slice}
 use Rattle.std.proofs.lemmas.Iterator.Search.{position_from_yields_List}

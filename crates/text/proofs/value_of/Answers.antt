@@ -1,4 +1,5 @@
 -- `text::value_of` meets its contract: what is left, read behind v, gives what the whole gives.
+-- Tried with the definitions and these laws named on the function: the check does not find it alone.
 use Rattle.std.proofs.Common.{rules, ap, ◌∙◌}
 use Rattle.text.specs.Inside.{read_from}
 use Rattle.text.proofs.Numbers.{read_all}

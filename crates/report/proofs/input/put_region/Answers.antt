@@ -1,4 +1,5 @@
 -- `report::input::put_region` meets its contract: too long, refused, or listed.
+-- Tried with the definitions and these laws named on the function: the check does not find it alone.
 use Rattle.std.proofs.Common.{rules}
 use Rattle.report.proofs.Inputs.{too_long, not_allowed, lists_region}
 use Rattle.report.proofs.input.put_region.Goals as goal

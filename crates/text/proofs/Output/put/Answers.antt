@@ -1,4 +1,5 @@
 -- `text::Output::put` meets its contract: past the end nothing, or the part that is copied.
+-- Tried with the definitions and these laws named on the function: the check does not find it alone.
 use Rattle.std.proofs.Common.{rules, arith, refl}
 use Rattle.text.proofs.Puts.{lays_past, lays_part}
 use Rattle.text.proofs.Output.put.Goals as goal

@@ -1,4 +1,5 @@
 -- `text::Output::put_decimal` meets its contract: the digits that are written are those of the definition.
+-- Tried with the definitions and these laws named on the function: the check does not find it alone.
 use Rattle.std.proofs.Common.{subst, ◌∙◌}
 use Rattle.text.specs.Pieces.{Lays}
 use Rattle.text.proofs.Digits.{decimal_are}
