@@ -50,7 +50,7 @@ fn numbers_of(record: RecordRef) -> [u64; 3] {
     }
 }
 
-// The part of the frame that the record's free bytes are.
+// The part of the frame that the record's free bytes are, taken from what decode gives, without the form for C.
 fn part_of(record: RecordRef) -> Part {
     match record {
         RecordRef::RunStarted { input, .. } => input,
