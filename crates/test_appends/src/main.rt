@@ -12,7 +12,7 @@ use waymaker_core::id::EffectSeq;
 use waymaker_core::record::{Record, RecordKind};
 use waymaker_core::timer::ClockKind;
 
-// A step of an append. Of test_lents' the first takes free bytes beside the record.
+// A step of an append. A list of closures would have no names to print, and test_lents' steps take free bytes too.
 #[derive(Clone, Copy)]
 enum Call {
     Stage(Record),

@@ -6,6 +6,7 @@
 ghost use Rattle.std.specs.Prelude.{◌<◌};
 
 use integrity::{frame_check, header_check};
+use std::alloc::{AllocError, Global};
 use std::io;
 
 // Both checks, or what stands for them, behind a name.
@@ -17,14 +18,23 @@ fn show_checks(rt: &impl Print, name: &str, message: &[u8]) -> io::Result<()> {
     show(rt, name, header_check(message), frame_check(message))
 }
 
+fn followed(alloc: Global, message: &[u8], check: &[u8]) -> Result<Vec<u8>, AllocError> {
+    let mut bytes = message.to_vec(alloc)?;
+    bytes.extend_from_slice(check)?;
+    Ok(bytes)
+}
+
 // A message followed by its own check, least significant octet first, for each of the two: the registers before the
 // complement.
 fn show_good(rt: &(impl Print + AllocGlobal), name: &str, message: &[u8]) -> io::Result<()> {
-    let mut with16 = message.to_vec(rt.alloc())?;
-    with16.extend_from_slice(&header_check(message).to_le_bytes())?;
-    let mut with32 = message.to_vec(rt.alloc())?;
-    with32.extend_from_slice(&frame_check(message).to_le_bytes())?;
-    show(rt, name, !header_check(&with16), !frame_check(&with32))
+    let with_header = followed(rt.alloc(), message, &header_check(message).to_le_bytes())?;
+    let with_frame = followed(rt.alloc(), message, &frame_check(message).to_le_bytes())?;
+    show(
+        rt,
+        name,
+        !header_check(&with_header),
+        !frame_check(&with_frame),
+    )
 }
 
 // RFC 1662's table of a check, so many entries in a line of so many characters each. Entry i is the register of all

@@ -106,9 +106,9 @@ fn laid(item: Item) -> [u8; MOST] {
     out
 }
 
-// Whether y has every 1 bit of x, so that a cut of x may read as y.
-fn covers(x: &[u8], y: &[u8]) -> bool {
-    x.iter().zip(y).all(|(x, y)| *x & *y == *x)
+// Whether these bytes have every 1 bit of those that are cut, so that a cut of those may read as these.
+fn covers(front: &[u8], cut: &[u8]) -> bool {
+    front.iter().zip(cut).all(|(y, x)| *x & *y == *x)
 }
 
 fn one_seq(tally: &mut Tally, a: u32, pair: Pair, seq: u32) {
@@ -117,13 +117,9 @@ fn one_seq(tally: &mut Tally, a: u32, pair: Pair, seq: u32) {
         seq: seq | pair.front.seq,
         ..pair.front
     });
-    if covers(first(&laid(item), pair.n), &front) {
-        cuts(
-            tally,
-            a,
-            item,
-            |cut, tally| cut.fronts(tally, front, pair.n),
-        );
+    let front = first(&front, pair.n);
+    if covers(front, &laid(item)) {
+        cuts(tally, a, item, |cut, tally| cut.fronts(tally, front));
     }
 }
 

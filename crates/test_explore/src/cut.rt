@@ -128,14 +128,14 @@ impl Cut {
         }
     }
 
-    // The body's first n bytes are made to read as those that are given. The rest of it is programmed; and then, where
+    // The body's first bytes are made to read as those that are given. The rest of it is programmed; and then, where
     // there is one, it is not.
-    pub(crate) fn fronts(&self, tally: &mut Tally, front: [u8; MOST], n: usize) {
+    pub(crate) fn fronts(&self, tally: &mut Tally, front: &[u8]) {
         for behind in [0, 255] {
-            if behind == 0 || n < self.len {
-                let mut mask = front;
-                for byte in mask.iter_mut().skip(n) {
-                    *byte = behind;
+            if behind == 0 || front.len() < self.len {
+                let mut mask = [behind; MOST];
+                for (byte, given) in mask.iter_mut().zip(front) {
+                    *byte = *given;
                 }
                 tally.add(self.tear_body(&mask));
             }

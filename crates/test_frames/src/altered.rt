@@ -3,7 +3,7 @@
 // then for each that of frame_len_of (1; 0 if there is none). Cut k leaves k bytes; bit b is bit b mod 8 of byte b / 8.
 ghost use Rattle.std.specs.Prelude.{◌<◌};
 
-use crate::decoding::frame_len_agrees;
+use crate::decoding::{frame_len_agrees, len_wanted};
 use decode::decode;
 use std::alloc::{AllocError, Global};
 use testing::parts::array;
@@ -35,10 +35,9 @@ fn read(mut vector: &[u8], ways: usize) -> Option<Altered<'_>>
     })
 }
 
-// Whether bytes are refused by decode with this number, and answered by frame_len_of with that, or with this length.
-fn agrees(bytes: &[u8], by_decode: u8, by_len: u8, len: usize) -> bool {
-    decode(bytes).is_err_and(|error| error.number() == by_decode)
-        && frame_len_agrees(bytes, by_len, len)
+// Whether bytes are refused by decode with this number, and answered by frame_len_of so.
+fn agrees(bytes: &[u8], by_decode: u8, by_len: Result<usize, u8>) -> bool {
+    decode(bytes).is_err_and(|error| error.number() == by_decode) && frame_len_agrees(bytes, by_len)
 }
 
 // Alters a copy of the frame in each way, so many for each byte.
@@ -59,7 +58,7 @@ fn alter<F: Fn(&mut Vec<u8>, usize)>(
     for (k, (by_decode, by_len)) in all.by_decode.iter().zip(all.by_len).enumerate() {
         let mut bytes = all.frame.to_vec(alloc)?;
         change(&mut bytes, k);
-        tally.add(agrees(&bytes, *by_decode, *by_len, all.len));
+        tally.add(agrees(&bytes, *by_decode, len_wanted(*by_len, all.len)));
     }
     Ok(())
 }

@@ -10,7 +10,8 @@ use waymaker_core::error::DecodeError;
 use waymaker_core::id::EffectSeq;
 use waymaker_core::record::{NO_PART, Part, RecordKind, RecordRef};
 
-// What a frame says, whatever its kind.
+// What a frame says, whatever its kind, in the vector's own form: a flag before the kind and three numbers after it,
+// whatever they are. Crate numbers says the same in the form for C, which is no part of what is tried here.
 #[derive(Clone, Copy, PartialEq, Eq)]
 struct Said {
     known: bool,
@@ -24,7 +25,7 @@ struct Said {
     frame_crc: u32,
 }
 
-// The numbers of a record in their order.
+// The numbers of a record in their order, as the vector has them.
 fn numbers_of(record: RecordRef) -> [u64; 3] {
     match record {
         RecordRef::RunStarted {
@@ -49,7 +50,7 @@ fn numbers_of(record: RecordRef) -> [u64; 3] {
     }
 }
 
-// The part of the frame that the record's free bytes are.
+// The part of the frame that the record's free bytes are, taken from what decode gives, without the form for C.
 fn part_of(record: RecordRef) -> Part {
     match record {
         RecordRef::RunStarted { input, .. } => input,
@@ -130,20 +131,20 @@ pub(crate) fn len_wanted(refusal: u8, len: usize) -> Result<usize, u8> {
 }
 
 // Whether frame_len_of gives it.
-pub(crate) fn frame_len_agrees(bytes: &[u8], refusal: u8, len: usize) -> bool {
-    frame_len_of(bytes).map_err(DecodeError::number) == len_wanted(refusal, len)
+pub(crate) fn frame_len_agrees(bytes: &[u8], wanted: Result<usize, u8>) -> bool {
+    frame_len_of(bytes).map_err(DecodeError::number) == wanted
 }
 
 // None where the vector is cut short.
 pub(crate) fn decode_agrees(mut vector: &[u8]) -> Option<bool> {
     let refusal = *vector.split_off_first()?;
     let len_refusal = *vector.split_off_first()?;
-    let len = count(&mut vector)?;
+    let len = len_wanted(len_refusal, count(&mut vector)?);
     let wanted = if refusal == 0 {
         Ok(wanted_by(&mut vector)?)
     } else {
         Err(refusal)
     };
     let found = decode(vector).map(Said::from).map_err(DecodeError::number);
-    Some(found == wanted && frame_len_agrees(vector, len_refusal, len))
+    Some(found == wanted && frame_len_agrees(vector, len))
 }

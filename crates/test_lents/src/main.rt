@@ -16,7 +16,8 @@ use waymaker_core::id::EffectSeq;
 use waymaker_core::record::{Record, RecordKind};
 use waymaker_core::timer::ClockKind;
 
-// A step of an append.
+// A step of an append. Each is made in both forms, so that a list of closures would stand here once for each form. One
+// enum with test_appends in crate testing would share three names, and neither match: it prints, and has no free bytes.
 #[derive(Clone, Copy)]
 enum Call {
     Stage(Record, &'static [u8]),

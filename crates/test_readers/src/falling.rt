@@ -14,8 +14,7 @@ pub(crate) struct Seen<'a> {
     pub rest: &'a [u8],
 }
 
-pub(crate) fn by_reader(payload: &[u8], at: usize) -> Seen<'_> {
-    let mut r = Reader { payload, at };
+pub(crate) fn by_reader(mut r: Reader<'_>) -> Seen<'_> {
     let eight = (r.u64(), r.at);
     let four = (r.u32(), r.at);
     let two = (r.u16(), r.at);
@@ -38,7 +37,9 @@ fn past<T>(taken: Option<(T, Cursor)>, at: usize) -> (Option<T>, usize) {
     }
 }
 
-pub(crate) fn by_cursor(payload: &[u8], at: usize) -> Seen<'_> {
+// From where a reader stands, over its payload.
+pub(crate) fn by_cursor(start: Reader<'_>) -> Seen<'_> {
+    let Reader { payload, at } = start;
     let eight = past(Cursor { at }.u64(payload), at);
     let four = past(Cursor { at: eight.1 }.u32(payload), eight.1);
     let two = past(Cursor { at: four.1 }.u16(payload), four.1);

@@ -6,6 +6,7 @@ mod falling;
 mod started;
 
 use falling::{by_cursor, by_reader};
+use payload_reader::Reader;
 use started::{show_started, start_agrees};
 use std::{fmt, io};
 use testing::parts::first;
@@ -26,36 +27,42 @@ impl<T: fmt::Display> fmt::Display for Taken<T> {
     }
 }
 
-fn agree(payload: &[u8], at: usize) -> bool {
-    by_reader(payload, at) == by_cursor(payload, at) && start_agrees(payload)
+fn agree(r: Reader) -> bool {
+    by_reader(r) == by_cursor(r) && start_agrees(r.payload)
 }
 
 // Every length to 24, from every place to 27: how many agree.
 fn agreeing(bytes: &[u8]) -> usize {
     (0..=24usize)
         .map(|n| {
+            let payload = first(bytes, n);
             (0..=27usize)
-                .filter(|at| agree(first(bytes, n), *at))
+                .filter(|at| agree(Reader { payload, at: *at }))
                 .count()
         })
         .fold(0, usize::saturating_add)
 }
 
-fn show(rt: &impl Print, payload: &[u8], at: usize) -> io::Result<()> {
-    let seen = by_reader(payload, at);
-    print!(rt; "of {} bytes, from {at}:", payload.len())?;
+fn show(rt: &impl Print, r: Reader) -> io::Result<()> {
+    let seen = by_reader(r);
+    print!(rt; "of {} bytes, from {}:", r.payload.len(), r.at)?;
     print!(rt; "{}{}", Taken(seen.eight.0), Taken(seen.four.0))?;
     print!(rt; "{}{}", Taken(seen.two.0), Taken(seen.one.0))?;
     println!(rt; "; at {}, left {}", seen.one.1, seen.rest.len())
 }
 
 fn main(rt: HostRuntime) -> io::Result<()> {
-    show(&rt, BYTES, 0)?;
-    show(&rt, first(BYTES, 15), 0)?;
+    show(&rt, Reader::new(BYTES))?;
+    show(&rt, Reader::new(first(BYTES, 15)))?;
     for at in [0, 6, 8] {
-        show(&rt, first(BYTES, 7), at)?;
+        let payload = first(BYTES, 7);
+        show(&rt, Reader { payload, at })?;
     }
-    show(&rt, BYTES, usize::MAX)?;
+    let past_end = Reader {
+        payload: BYTES,
+        at: usize::MAX,
+    };
+    show(&rt, past_end)?;
     for n in [3, 4, 24] {
         show_started(&rt, first(BYTES, n))?;
     }

@@ -2,10 +2,10 @@
 // another there.
 use counts::WriteAmplification;
 use numbers::decoded::ReadRecord;
+use numbers::refused::{NONE, Refused};
 use testing::records::record;
 use waymaker_core::error::Refusal;
-use waymaker_core::id::EffectSeq;
-use waymaker_core::record::{NO_PART, Record, RecordKind, RecordRef};
+use waymaker_core::record::{Part, Record, RecordRef};
 
 #[derive(Clone, Copy)]
 pub(crate) struct Answer<'a>(pub &'a [u8]);
@@ -27,34 +27,24 @@ impl Answer<'_> {
 
     // REFUSED.
     pub(crate) fn refused(&mut self, refusal: Option<Refusal>) -> Option<()> {
-        let (number, needed, available) = match refusal {
-            Some(refusal) => (refusal.number(), refusal.needed(), refusal.available()),
-            None => (0, 0, 0),
-        };
-        self.bytes(&[number])?;
-        self.number(needed)?;
-        self.number(available)
-    }
-
-    fn read(&mut self, read: ReadRecord) -> Option<()> {
-        if record(&mut self.0)? != read.record {
-            return None;
-        }
-        self.count(read.free.place)?;
-        self.count(read.free.len)
+        let refused = refusal.map_or(NONE, Refused::from);
+        self.bytes(&[refused.number])?;
+        self.number(refused.needed)?;
+        self.number(refused.available)
     }
 
     // FOUND.
-    pub(crate) fn found(&mut self, found: RecordRef) -> Option<()> {
-        self.read(ReadRecord::from(found))
+    pub(crate) fn read(&mut self, found: Record, free: Part) -> Option<()> {
+        if record(&mut self.0)? != found {
+            return None;
+        }
+        self.count(free.place)?;
+        self.count(free.len)
     }
 
-    // FOUND of a kind that is not known.
-    pub(crate) fn unknown(&mut self, kind: RecordKind) -> Option<()> {
-        self.read(ReadRecord {
-            record: Record::new(kind, EffectSeq::FIRST),
-            free: NO_PART,
-        })
+    pub(crate) fn found(&mut self, found: RecordRef) -> Option<()> {
+        let read = ReadRecord::from(found);
+        self.read(read.record, read.free)
     }
 
     pub(crate) fn counts(&mut self, counts: WriteAmplification) -> Option<()> {

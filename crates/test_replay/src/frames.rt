@@ -5,7 +5,7 @@ use decode::{Frame, decode};
 use encode::encode;
 use frame::lengths::{body_len, encoded_len};
 use integrity::{frame_check, header_check};
-use payload::Decoded;
+use numbers::decoded::DecodedFrame;
 use testing::parts::counted;
 use testing::records::record;
 use waymaker_core::error::Refusal;
@@ -40,19 +40,12 @@ pub(crate) fn encodes(mut case: &[u8]) -> Option<()> {
 }
 
 fn said(answer: &mut Answer, frame: Frame) -> Option<()> {
-    match frame.decoded {
-        Decoded::Record(record) => {
-            answer.bytes(&[1])?;
-            answer.found(record)?;
-        }
-        Decoded::UnknownKind(kind) => {
-            answer.bytes(&[0])?;
-            answer.unknown(kind)?;
-        }
-    }
-    answer.count(frame.frame_len)?;
-    answer.number(frame.frame_crc)?;
-    answer.bytes(&[frame.format_version])
+    let said = DecodedFrame::from(frame);
+    answer.bytes(&[said.known])?;
+    answer.read(said.record, said.free)?;
+    answer.count(said.frame_len)?;
+    answer.number(said.frame_crc)?;
+    answer.bytes(&[said.format_version])
 }
 
 pub(crate) fn decodes(mut case: &[u8]) -> Option<()> {

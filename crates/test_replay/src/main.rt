@@ -51,6 +51,19 @@ fn unit(case: &mut &[u8]) -> Option<u16> {
     Some(u16::from_le_bytes(array(case)?))
 }
 
+// Numbers of the file, and no enum: it would be matched once more, to be read.
+const CHECKS: u8 = 1;
+
+const ENCODE: u8 = 2;
+
+const DECODE: u8 = 3;
+
+const RECOVERY: u8 = 4;
+
+const SCAN: u8 = 5;
+
+const APPEND: u8 = 6;
+
 // How the answers of each op agree, and those of no op.
 #[derive(Clone, Copy, Default)]
 struct Tallies {
@@ -69,12 +82,12 @@ impl Tallies {
             .split_first()
             .map_or((0, case), |(op, asked)| (*op, asked));
         match op {
-            1 => self.checks.add(checks(asked).is_some()),
-            2 => self.encode.add(encodes(asked).is_some()),
-            3 => self.decode.add(decodes(asked).is_some()),
-            4 => self.recovery.add(recovers(asked).is_some()),
-            5 => self.scan.add(scans(asked).is_some()),
-            6 => self.append.add(appends(asked).is_some()),
+            CHECKS => self.checks.add(checks(asked).is_some()),
+            ENCODE => self.encode.add(encodes(asked).is_some()),
+            DECODE => self.decode.add(decodes(asked).is_some()),
+            RECOVERY => self.recovery.add(recovers(asked).is_some()),
+            SCAN => self.scan.add(scans(asked).is_some()),
+            APPEND => self.append.add(appends(asked).is_some()),
             _ => self.other.add(false),
         }
     }

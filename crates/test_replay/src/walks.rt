@@ -1,7 +1,7 @@
 // The cases of many records: recovery and scan, step by step up to the first step that finds no record.
 use crate::answer::Answer;
 use crate::{FILL, MOST, unit};
-use recovery::next::{Ending, Recovery};
+use recovery::next::Recovery;
 use scan::Scan;
 use storage::geometry::Geometry;
 use testing::parts::counted;
@@ -11,45 +11,33 @@ use waymaker_core::record::RecordRef;
 // More steps than a case has records.
 const STEPS: usize = MOST;
 
-fn number(ending: Ending) -> u8 {
-    match ending {
-        Ending::Open => 0,
-        Ending::Clean => 1,
-        Ending::Damaged => 2,
-        Ending::Incomplete => 3,
-        Ending::Unsealed => 4,
-    }
-}
-
-// A record found, with its offset, "ended", or a refusal.
-fn step(answer: &mut Answer, step: Result<Option<(usize, RecordRef)>, Refusal>) -> Option<()> {
+// A record found, with its offset, "ended", or a refusal; it says whether a record was found.
+fn step(answer: &mut Answer, step: Result<Option<(usize, RecordRef)>, Refusal>) -> Option<bool> {
     match step {
         Ok(Some((offset, record))) => {
             answer.bytes(&[1])?;
             answer.count(offset)?;
-            answer.found(record)
+            answer.found(record)?;
+            Some(true)
         }
-        Ok(None) => answer.bytes(&[2]),
+        Ok(None) => {
+            answer.bytes(&[2])?;
+            Some(false)
+        }
         Err(refusal) => {
             answer.bytes(&[3])?;
-            answer.refused(Some(refusal))
+            answer.refused(Some(refusal))?;
+            Some(false)
         }
     }
 }
 
-fn recover(mut answer: Answer, geometry: Geometry, region: &[u8], page: &mut [u8]) -> Option<()> {
-    let mut state = Recovery::new(geometry);
+// Steps up to the first that finds no record.
+fn walk<F: FnMut(&mut Answer) -> Option<bool>>(mut answer: Answer, mut next: F) -> Option<()>
+    requires { F.IsAlwaysCallable next }
+{
     for _ in 0..STEPS {
-        let stepped = state.next(region, page);
-        let found = stepped.answer.map(|found| {
-            found.map(|found| (found.offset as usize, found.record.record))
-        });
-        state = stepped.state;
-        step(&mut answer, found)?;
-        answer.number(state.offset)?;
-        answer.bytes(&[number(state.ending)])?;
-        answer.bytes(page)?;
-        if !matches!(found, Ok(Some(_))) {
+        if !next(&mut answer)? {
             return answer.end();
         }
     }
@@ -66,27 +54,35 @@ pub(crate) fn recovers(mut case: &[u8]) -> Option<()> {
         program_size,
         read_size,
     };
-    let mut page = [FILL; MOST];
-    recover(Answer(case), geometry, region, page.get_mut(..n)?)
+    let mut bytes = [FILL; MOST];
+    let page = bytes.get_mut(..n)?;
+    let mut state = Recovery::new(geometry);
+    walk(Answer(case), |answer| {
+        let stepped = state.next(region, page);
+        state = stepped.state;
+        let found = stepped.answer.map(|found| {
+            found.map(|found| (found.offset as usize, found.record.record))
+        });
+        let is_found = step(answer, found)?;
+        answer.number(state.offset)?;
+        answer.bytes(&[state.ending as u8])?;
+        answer.bytes(page)?;
+        Some(is_found)
+    })
 }
 
 pub(crate) fn scans(mut case: &[u8]) -> Option<()> {
     let align = usize::from(unit(&mut case)?);
     let journal = counted(&mut case)?;
-    let mut answer = Answer(case);
     let mut state = Scan::new(align);
-    for _ in 0..STEPS {
+    walk(Answer(case), |answer| {
         let stepped = state.next(journal);
-        let found = stepped.answer.map(|found| found.map(|found| (
-            found.offset,
-            found.record.record,
-        )));
         state = stepped.state;
-        step(&mut answer, found)?;
+        let found = stepped.answer.map(|found| {
+            found.map(|found| (found.offset, found.record.record))
+        });
+        let is_found = step(answer, found)?;
         answer.count(state.offset)?;
-        if !matches!(found, Ok(Some(_))) {
-            return answer.end();
-        }
-    }
-    None
+        Some(is_found)
+    })
 }

@@ -16,51 +16,80 @@ use storage::geometry::Geometry;
 use waymaker_core::id::EffectSeq;
 use waymaker_core::record::{Record, RecordKind};
 
-// Takes four steps from offset 0 and shows each.
-fn steps(rt: &impl Print, geometry: Geometry, region: &[u8], page: &mut [u8]) -> io::Result<()> {
-    let mut state = Recovery::new(geometry);
-    for _ in 0..4 {
-        let step = state.next(region, page);
-        rt.println(Step(step))?;
-        state = step.state;
-    }
-    Ok(())
+// A region, the geometry that it is held to have, and the page through which it is looked at.
+#[derive(Clone, Copy)]
+struct Device<const N: usize, const P: usize> {
+    geometry: Geometry,
+    region: [u8; N],
+    page: [u8; P],
 }
 
-// The units as the calls take them.
-fn units(geometry: Geometry) -> (usize, usize) {
-    (geometry.program_size as usize, geometry.read_size as usize)
-}
-
-// Three sequences, of which the last is that of the records of a run.
-fn finds(rt: &impl Print, geometry: Geometry, region: &[u8], page: &mut [u8]) -> io::Result<()> {
-    let (a, r) = units(geometry);
-    for seq in [7, 8, 0] {
-        match find(EffectSeq(seq), a, r, region, page) {
-            Ok(Some(offset)) => println!(rt; "find {seq}: at {offset}")?,
-            Ok(None) => println!(rt; "find {seq}: nowhere")?,
-            Err(refusal) => println!(rt; "find {seq}: {}", Refused(refusal))?,
+impl<const N: usize, const P: usize> Device<N, P> {
+    // An erased region of so many bytes, in units of 4 and 1.
+    fn new(bytes: u32) -> Self {
+        let geometry = Geometry {
+            bytes,
+            program_size: 4,
+            read_size: 1,
+        };
+        Device {
+            geometry,
+            region: [255; N],
+            page: [0; P],
         }
     }
-    Ok(())
-}
 
-fn opens(rt: &impl Print, geometry: Geometry, region: &[u8], page: &mut [u8]) -> io::Result<()> {
-    let (a, r) = units(geometry);
-    match Journal::open(a, r, region, page) {
-        Ok(journal) => println!(rt; "open: ready at {}", journal.offset),
-        Err(refusal) => println!(rt; "open: {}", Refused(refusal)),
+    // Takes four steps from offset 0 and shows each.
+    fn steps(&mut self, rt: &impl Print) -> io::Result<()> {
+        let mut state = Recovery::new(self.geometry);
+        for _ in 0..4 {
+            let step = state.next(&self.region, &mut self.page);
+            rt.println(Step(step))?;
+            state = step.state;
+        }
+        Ok(())
+    }
+
+    // The units as the calls take them.
+    fn units(&self) -> (usize, usize) {
+        let Geometry {
+            program_size,
+            read_size,
+            ..
+        } = self.geometry;
+        (program_size as usize, read_size as usize)
+    }
+
+    // Three sequences, of which the last is that of the records of a run.
+    fn finds(&mut self, rt: &impl Print) -> io::Result<()> {
+        let (a, r) = self.units();
+        for seq in [7, 8, 0] {
+            match find(EffectSeq(seq), a, r, &self.region, &mut self.page) {
+                Ok(Some(offset)) => println!(rt; "find {seq}: at {offset}")?,
+                Ok(None) => println!(rt; "find {seq}: nowhere")?,
+                Err(refusal) => println!(rt; "find {seq}: {}", Refused(refusal))?,
+            }
+        }
+        Ok(())
+    }
+
+    fn opens(&mut self, rt: &impl Print) -> io::Result<()> {
+        let (a, r) = self.units();
+        match Journal::open(a, r, &self.region, &mut self.page) {
+            Ok(journal) => println!(rt; "open: ready at {}", journal.offset),
+            Err(refusal) => println!(rt; "open: {}", Refused(refusal)),
+        }
+    }
+
+    fn show(&mut self, rt: &impl Print) -> io::Result<()> {
+        self.steps(rt)?;
+        self.finds(rt)?;
+        self.opens(rt)
     }
 }
 
-fn show(rt: &impl Print, geometry: Geometry, region: &[u8], page: &mut [u8]) -> io::Result<()> {
-    steps(rt, geometry, region, page)?;
-    finds(rt, geometry, region, page)?;
-    opens(rt, geometry, region, page)
-}
-
-// A record at a place of the region, as in the program that makes the images, which shares no crate with the tests. One
-// that encode refused would not be found.
+// A record at a place of the region, as in the program that makes the images, which shares no crate of helpers with the
+// tests. One that encode refused would not be found.
 fn put(region: &mut [u8; 96], at: usize, record: Record, free: &[u8]) {
     if let Some(out) = region.get_mut(at..) {
         let _ = encode(record, free, 4, out);
@@ -83,62 +112,29 @@ fn set_slot(region: &mut [u8; 96], first: u8) {
 }
 
 fn three(rt: &impl Print) -> io::Result<()> {
-    let geometry = Geometry {
-        bytes: 96,
-        program_size: 4,
-        read_size: 1,
-    };
-    let mut region = [255u8; 96];
-    let mut page = [0u8; 96];
-    fill(&mut region);
+    let mut device = Device::<96, 96>::new(96);
+    fill(&mut device.region);
     rt.println("three records")?;
-    show(rt, geometry, &region, &mut page)?;
-    set_slot(&mut region, 255);
+    device.show(rt)?;
+    set_slot(&mut device.region, 255);
     rt.println("the second never sealed")?;
-    show(rt, geometry, &region, &mut page)?;
-    set_slot(&mut region, 127);
+    device.show(rt)?;
+    set_slot(&mut device.region, 127);
     rt.println("one bit of its slot programmed")?;
-    show(rt, geometry, &region, &mut page)
+    device.show(rt)
 }
 
 fn limits(rt: &impl Print) -> io::Result<()> {
-    let geometry = Geometry {
-        bytes: 40,
-        program_size: 4,
-        read_size: 1,
-    };
-    let region = [255u8; 40];
-    let mut page = [0u8; 15];
+    let mut device = Device::<40, 15>::new(40);
+    device.geometry.read_size = 16;
     rt.println("r=16, N=40, page 15")?;
-    show(
-        rt,
-        Geometry {
-            read_size: 16,
-            ..geometry
-        },
-        &region,
-        &mut page,
-    )?;
+    device.show(rt)?;
+    device.geometry.read_size = 1;
+    device.geometry.program_size = 3;
     rt.println("a=3")?;
-    show(
-        rt,
-        Geometry {
-            program_size: 3,
-            ..geometry
-        },
-        &region,
-        &mut page,
-    )?;
+    device.show(rt)?;
     rt.println("N=41 held, 40 given")?;
-    steps(
-        rt,
-        Geometry {
-            bytes: 41,
-            ..geometry
-        },
-        &region,
-        &mut page,
-    )
+    Device::<40, 15>::new(41).steps(rt)
 }
 
 fn length(rt: &impl Print, payload_bytes: usize) -> io::Result<()> {

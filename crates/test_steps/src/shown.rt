@@ -13,7 +13,7 @@ impl fmt::Display for Refused {
     }
 }
 
-// No Display of its own: the type is another crate's.
+// No Display: a struct around the ending would have this match in its fmt, and be no plainer than a name.
 fn name(ending: Ending) -> &'static str {
     match ending {
         Ending::Open => "open",

@@ -10,12 +10,15 @@ use waymaker_core::record::{Record, RecordKind};
 use waymaker_core::timer::ClockKind;
 use waymaker_core::version::GateId;
 
-// A number's bytes among those of a record, from a place on.
-fn part<const N: usize>(bytes: &[u8; 38], at: usize) -> [u8; N]
-    requires { at + N ≤ 38 }
-    ensures { result ≡ take N (drop at bytes.now) }
+// A record's bytes from a place on, which moves past them. Taken off the front of a slice instead, as parts does, they
+// were tried: the check's search gave up from the sixth number on.
+fn next<const N: usize>(bytes: &[u8; 38], at: &mut usize) -> [u8; N]
+    requires { at.old + N ≤ 38 }
+    ensures { (result ≡ take N (drop at.old bytes.now)) × (at.new ≡ at.old + N) }
 {
-    *bytes[at..].first_chunk().unwrap()
+    let front = bytes[*at..].first_chunk().unwrap();
+    *at += N;
+    *front
 }
 
 // Takes a record off the front. Where fewer bytes are left nothing is taken.
@@ -24,18 +27,19 @@ pub fn record(left: &mut &[u8]) -> Option<Record>
         (λ r. (r ≡ record_in (take 38 left.old.now)) × (left.new.now ≡ drop 38 left.old.now)) }
 {
     let bytes = array(left)?;
+    let mut at = 0;
     Some(Record {
-        kind: RecordKind(bytes[0]),
-        seq: EffectSeq(u32::from_le_bytes(part(&bytes, 1))),
-        workflow_kind: u16::from_le_bytes(part(&bytes, 5)),
-        workflow_version: u16::from_le_bytes(part(&bytes, 7)),
-        activity: ActivityKind(u16::from_le_bytes(part(&bytes, 9))),
-        input_len: u16::from_le_bytes(part(&bytes, 11)),
-        input_crc: u32::from_le_bytes(part(&bytes, 13)),
-        clock_kind: ClockKind(bytes[17]),
-        deadline: u64::from_le_bytes(part(&bytes, 18)),
-        armed_at: u64::from_le_bytes(part(&bytes, 26)),
-        gate: GateId(u16::from_le_bytes(part(&bytes, 34))),
-        version: u16::from_le_bytes(part(&bytes, 36)),
+        kind: RecordKind(u8::from_le_bytes(next(&bytes, &mut at))),
+        seq: EffectSeq(u32::from_le_bytes(next(&bytes, &mut at))),
+        workflow_kind: u16::from_le_bytes(next(&bytes, &mut at)),
+        workflow_version: u16::from_le_bytes(next(&bytes, &mut at)),
+        activity: ActivityKind(u16::from_le_bytes(next(&bytes, &mut at))),
+        input_len: u16::from_le_bytes(next(&bytes, &mut at)),
+        input_crc: u32::from_le_bytes(next(&bytes, &mut at)),
+        clock_kind: ClockKind(u8::from_le_bytes(next(&bytes, &mut at))),
+        deadline: u64::from_le_bytes(next(&bytes, &mut at)),
+        armed_at: u64::from_le_bytes(next(&bytes, &mut at)),
+        gate: GateId(u16::from_le_bytes(next(&bytes, &mut at))),
+        version: u16::from_le_bytes(next(&bytes, &mut at)),
     })
 }
