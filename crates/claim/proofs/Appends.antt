@@ -76,7 +76,7 @@ body_bytes a x t =
     let q : ℕ = x.«record».seq.0 in
     let s : List ℕ = payload_for x in
     bytes_append (covered_of k q s ++ bytes_le 4 (check_of k q s)) (replicate (body_len a (length s) - (16 + length s)) 255)
-    (bytes_append (covered_of k q s) (bytes_le 4 (check_of k q s)) (covered_bytes k q s t.kind (payload_bytes x.«record» x.free t)) (number_bytes 4 (check_of k q s)))
+    (bytes_append (covered_of k q s) (bytes_le 4 (check_of k q s)) (covered_bytes k q s t.kind (payload_bytes x.«record» x.free t.free_bytes)) (number_bytes 4 (check_of k q s)))
     (replicate_bytes (body_len a (length s) - (16 + length s)))
 
 blank_take : (n : ℕ) (t : List ℕ) → Blank t → Blank (take n t)
