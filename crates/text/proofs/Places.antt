@@ -49,15 +49,20 @@ all_behind s n = take_all (length s - (n + 1)) (drop (n + 1) s) (omega (arith, l
 
 -- the search over the bytes by a closure that tests for b: where there is no b, and where the first one stands at n
 module _ {F : Type 0} {g : Mut F (Bor ℕ × Unit {0}) Bool} {i u : Iter ℕ} {f : F} (b : ℕ) {s : List ℕ} {r : Option ℕ}
-    (ran : (xs : List (Bor ℕ)) × (o : Option (Bor ℕ)) × (j : F) × YieldsThen fronts i xs o u × FoldsTo (λ p x q. Called g p (x, tt) false q) f xs j × MatchOption o (r ≡ None) (λ x. (r ≡ Some (length xs)) × ((h : F) × Called g j (x, tt) true h)))
-    (e : i.rest.now ≡ s) (k : (x : Bor ℕ) (y : Bool) (q : F) → Called g f (x, tt) y q → (q ≡ f) × (y ≡ eqb x.now b)) where
+    (ran : (xs : List (Bor ℕ)) × (o : Option (Bor ℕ)) × (j : F) × YieldsThen fronts i xs o u
+    × FoldsTo (λ p x q. Called g p (x, tt) false q) f xs j
+    × MatchOption o (r ≡ None) (λ x. (r ≡ Some (length xs)) × ((h : F) × Called g j (x, tt) true h)))
+    (e : i.rest.now ≡ s)
+    (k : (x : Bor ℕ) (y : Bool) (q : F) → Called g f (x, tt) y q → (q ≡ f) × (y ≡ eqb x.now b)) where
   searched : MatchOption r (place_of b s ≡ length s) (λ n. (n ≡ place_of b s) × (place_of b s < length s))
   searched = found_at b s r (position_from_yields_List (λ x. eqb x b) u f r ran (YieldsList-from_slice s e) k)
 
   pub parts_none : r ≡ None → place_of b s ≡ length s
   parts_none h = rw h at searched
 
-  pub parts_at : (n : ℕ) → r ≡ Some n → (place_of b s < length s) × (take n s ≡ take (place_of b s) s) × (take (length s - (n + 1)) (drop (n + 1) s) ≡ drop (place_of b s + 1) s)
+  pub parts_at : (n : ℕ) → r ≡ Some n
+      → (place_of b s < length s) × (take n s ≡ take (place_of b s) s)
+      × (take (length s - (n + 1)) (drop (n + 1) s) ≡ drop (place_of b s + 1) s)
   parts_at n h =
       let l = rw h at searched in
       (l.1, ap (λ m. take m s) l.0, all_behind s n ∙ ap (λ m. drop (m + 1) s) l.0)
