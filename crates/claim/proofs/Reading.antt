@@ -1,6 +1,7 @@
 -- What a caller reads step by step, with a page of its own lent to each step, is what a run with one page finds.
 -- Assumes nothing.
 use Rattle.std.specs.Prelude.{Ok, Err, Some, None}
+use Rattle.std.specs.Result.{result_unwrap_or}
 use mathlib.Core.Path.{◌≡◌, refl, sym, ap, ◌∙◌, subst}
 use mathlib.Core.Bool.{true, not}
 use mathlib.Core.List.{List, [], ◌∷◌}
@@ -136,7 +137,11 @@ module _ (region : List ℕ) (b : AllBytes region) (g : Geometry) (ok : allowed 
       subst (λ u. Reads region x.out.state (later pages) (all_said_in region (founds u region y.page))) (ap (λ z. z.state) same_out)
       (reads_found_lem n x.out.state (later pages) y.page ((step_keeps s region (pages 0)).settings ∙ e) (λ j. hs _)
       (omega (arith, (step_keeps s region page).long, h))
-      (omega (arith, found_less region (pages 0) s x.out x.page (next_step refl) f i))))
+      (omega (
+        arith,
+        found_less region (pages 0) s x.out x.page (next_step refl)
+            (Some f) (ap (λ z. result_unwrap_or z None) (sym i)) f refl,
+      ))))
     where
       -- nothing is found at this step
       none : Rests s region page (step s region page) → Reads region s pages (all_said_in region []) → Reads region s pages (all_said_in region (founds s region page))

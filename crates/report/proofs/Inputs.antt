@@ -1,37 +1,34 @@
--- The exits of the listing of a region.
+-- What an input says is what is listed.
 -- Assumes nothing.
 use mathlib.Core.Path.{◌≡◌}
 use mathlib.Core.List.{List}
-use Prim.Native.Nat.{ℕ, ◌≤◌, ◌<◌}
-use lib.ListN.{length}
-use borrow.Author.Tests.{lt-ltb, le-ltb}
-use Rattle.waymaker_core.specs.declared.error.Refusal.{Refusal}
+use Prim.Native.Nat.{ℕ, ◌+◌, ◌≤◌, ◌<◌}
+use lib.ListN.{length, take, drop}
+use borrow.Author.Tests.{le-ltb, ne_eqb}
+use native.Mathlib.Omega.{arith}
 use Rattle.storage.specs.declared.geometry.Geometry.{Geometry}
 use Rattle.storage.specs.Settings.{Checked, settings}
-use Rattle.std.proofs.Common.{Ok, Err}
-use Rattle.text.specs.declared.Output.{Output}
-use Rattle.text.specs.Pieces.{Lays}
-use Rattle.recovery.specs.declared.next.Recovery.{Recovery}
+use Rattle.std.proofs.Common.{Ok, Some, Option}
+use Rattle.text.specs.Text.{place_of}
 use Rattle.recovery.specs.Next.{fresh}
-use Rattle.lines.specs.Lines.{refused_line}
-use Rattle.report.specs.Report.{listed_region}
-use Rattle.report.specs.Inside.{Reports}
+use Rattle.report.specs.declared.input.Units.{Units}
+use Rattle.report.specs.Report.{units_of, listed_region, listed_by, listing}
+use Rattle.report.specs.Inside.{paged_lines}
 use Rattle.report.proofs.Covered.{page_unseen}
 
--- the exits of a listing: what is put is the listing
-module _ (a r : ℕ) (region : List ℕ) (out out' : Output) where
-  pub too_long : 32768 < length region → Lays out refused_line out' → Lays out (listed_region a r region) out'
+module _ (input line region : List ℕ) (h : place_of 10 input < length input)
+    (el : line ≡ take (place_of 10 input) input) (er : region ≡ drop (place_of 10 input + 1) input) where
+  -- behind a line feed
+  pub parted : listing input ≡ listed_by region (units_of line)
+  unfolding listing
+  parted = rw (ne_eqb (place_of 10 input) (length input) (λ e. omega (arith, h, e)), ← el, ← er)
+
+  -- through a page of at least 32,768 bytes, whatever it held, the lines are those of the walk with no page
+  pub says : (x : Option Units) (u : Units) (k : Checked) (g : Geometry)
+      → x ≡ units_of line → x ≡ Some u → length region ≤ 32768
+      → k ≡ settings (length region) u.program_size u.read_size → k ≡ Ok g → (page : List ℕ) → 32768 ≤ length page
+      → paged_lines (fresh g) region page ≡ listing input
   unfolding listed_region
-  too_long h p = rw (lt-ltb 32768 (length region) h) p
-
-  -- k is what the check of the settings answered
-  module _ (h : length region ≤ 32768) (k : Checked) (ek : k ≡ settings (length region) a r) where
-    pub not_allowed : (e : Refusal) → k ≡ Err e → Lays out refused_line out' → Lays out (listed_region a r region) out'
-    unfolding listed_region
-    not_allowed e f p = rw (le-ltb 32768 (length region) h, ← ek, f) p
-
-    -- through a page of at least 32,768 bytes, whatever it held, the lines are those of the walk with no page
-    pub lists_region : (g : Geometry) (s : Recovery) (page page' : List ℕ) → k ≡ Ok g → s ≡ fresh g → Reports s region page out out' page' → 32768 ≤ length page
-        → Lays out (listed_region a r region) out'
-    unfolding listed_region
-    lists_region g s page page' f i t l = rw (le-ltb 32768 (length region) h, page_unseen a r region page h l, ← ek, f, ← i) t.lines
+  says x u k g ex i l ek f page m =
+      let lines = page_unseen u.program_size u.read_size region page l m in
+      rw (parted, ← ex, i, le-ltb 32768 (length region) l, lines, ← ek, f)

@@ -1,7 +1,8 @@
 // What standard input says: a line with the two units, then the region.
 ghost use Rattle.std.specs.Prelude.{◌≡◌};
 ghost use Rattle.text.specs.Pieces.{Lays};
-ghost use Rattle.report.specs.Report.{units_of, listed_region, listing, Prints, Lists};
+ghost use Rattle.report.specs.Report.{units_of, listing, Prints, Lists};
+ghost use Rattle.report.specs.Inside.{Says};
 
 use crate::run::report;
 use lines::put_refused;
@@ -38,37 +39,34 @@ fn units_of(line: &[u8]) -> Option<Units>
     })
 }
 
-// Puts the listing of a region, or the refusal of its settings. The page is as long as the longest region, so that
-// every read fits in it.
-fn put_region(out: &mut Output, units: Units, region: &[u8])
-    ensures { Lays out.old (listed_region units.program_size units.read_size region.now) out.new }
+// The settings and the region that an input says; none where it is refused.
+#[tactic(auto, unfolding(crate::specs::Report::listing, crate::specs::Report::listed_region), using(crate::proofs::Inputs::says))]
+fn region_of(input: &[u8]) -> Option<(Geometry, &[u8])>
+    ensures { Says input.now result }
 {
+    let (line, region) = split_once(input, LINE_FEED)?;
+    let units = units_of(line)?;
     if REGION_MOST < region.len() {
-        return put_refused(out);
+        return None;
     }
-    let Ok(geometry) = Geometry::new(
+    let geometry = Geometry::new(
         region.len(),
         units.program_size as usize,
         units.read_size as usize,
-    ) else {
+    )
+    .ok()?;
+    Some((geometry, region))
+}
+
+// Puts the listing of an input. The page is as long as the longest region, so that every read fits in it.
+fn put_listing(out: &mut Output, input: &[u8])
+    ensures { Lays out.old (listing input.now) out.new }
+{
+    let Some((geometry, region)) = region_of(input) else {
         return put_refused(out);
     };
     let mut page = [0u8; REGION_MOST];
     report(Recovery::new(geometry), region, &mut page, out);
-}
-
-// Puts the listing of an input.
-#[tactic(auto, unfolding(crate::specs::Report::listing))]
-fn put_listing(out: &mut Output, input: &[u8])
-    ensures { Lays out.old (listing input.now) out.new }
-{
-    let Some((line, region)) = split_once(input, LINE_FEED) else {
-        return put_refused(out);
-    };
-    let Some(units) = units_of(line) else {
-        return put_refused(out);
-    };
-    put_region(out, units, region)
 }
 
 // Lays the listing of an input over the start of the output and answers where it ends. What does not fit is left out.

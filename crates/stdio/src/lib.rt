@@ -2,7 +2,7 @@
 #![tactic(auto)]
 
 ghost use Rattle.std.specs.Io.KnownBytes.{IsAtEnd};
-ghost use Rattle.std.specs.Prelude.{◌≡◌, ◌<◌, ◌≤◌, IfOk, MatchResult, length, take};
+ghost use Rattle.std.specs.Prelude.{◌≡◌, ◌<◌, IfOk, MatchResult, length};
 ghost use Rattle.stdio.specs.Stdio.{ReadsInput, GivesConsumed, IsShortAtEnd};
 
 use std::io::{self, ErrorKind, Read};
@@ -32,17 +32,15 @@ pub fn exit_code(rt: &impl Eprint, program: &str, outcome: Result<(), Failure>) 
     }
 }
 
-// One read to the part of the buffer from a place on: how many bytes came, 0 at the end of the input. It is tried again
-// where it is interrupted; no program waits for the 2^64 tries after which it would fail, but a function has to end.
-fn read_from<R: Read>(reader: &mut R, buf: &mut [u8], from: usize) -> io::Result<usize>
-    requires { from ≤ length buf.old }
-    ensures within { ReadsInput from buf.new result }
-    ensures bytes { GivesConsumed from (R.remaining reader.old) (R.remaining reader.new) buf.new result }
-    ensures end { IfOk result (λ n. n ≡ 0 → from < length buf.new → IsAtEnd (R.remaining reader.new)) }
-    ensures front { take from buf.new ≡ take from buf.old }
+// One read: how many bytes came, 0 at the end of the input. It is tried again where it is interrupted; no program waits
+// for the 2^64 tries after which it would fail, but a function has to end.
+fn read_from<R: Read>(reader: &mut R, part: &mut [u8]) -> io::Result<usize>
+    ensures within { ReadsInput part.new result }
+    ensures bytes { GivesConsumed (R.remaining reader.old) (R.remaining reader.new) part.new result }
+    ensures end { IfOk result (λ n. n ≡ 0 → 0 < length part.new → IsAtEnd (R.remaining reader.new)) }
 {
     for _ in 0..u64::MAX {
-        match reader.read(&mut buf[from..]) {
+        match reader.read(part) {
             Err(e) if e.kind() == ErrorKind::Interrupted => {}
             answer => return answer,
         }
@@ -54,13 +52,13 @@ fn read_from<R: Read>(reader: &mut R, buf: &mut [u8], from: usize) -> io::Result
 // Of std's own, `read_exact` says nothing of how many came, and `read_to_end` wants a heap.
 #[tactic(auto, using(crate::proofs::Reading::reads_on))]
 pub fn read_all<R: Read>(reader: &mut R, buf: &mut [u8]) -> io::Result<usize>
-    ensures within { ReadsInput 0 buf.new result }
-    ensures bytes { GivesConsumed 0 (R.remaining reader.old) (R.remaining reader.new) buf.new result }
+    ensures within { ReadsInput buf.new result }
+    ensures bytes { GivesConsumed (R.remaining reader.old) (R.remaining reader.new) buf.new result }
     ensures end { IsShortAtEnd (R.remaining reader.new) buf.new result }
 {
     let mut filled = 0;
     while filled < buf.len() {
-        let n = read_from(reader, buf, filled)?;
+        let n = read_from(reader, &mut buf[filled..])?;
         if n == 0 {
             return Ok(filled);
         }
