@@ -112,6 +112,7 @@ impl From<scan::Found> for FoundRecord {
     }
 }
 
+// No From: Ending is recovery's, and the numbers are those of the form for C.
 #[tactic(auto, unfolding(crate::specs::Stepping::ending_of))]
 fn ending_of(number: u8) -> Ending
     ensures { result ≡ ending_of number }

@@ -30,8 +30,8 @@ pub struct Settings {
     pub geometry: Geometry,
 }
 
-// Nothing is refused. What stands for nothing in C's answers is a constant with a name, in this crate, and no Default,
-// which would make a value of it. A constant calls no function, so that its zeros are written out.
+// Nothing is refused. Here and below zeros are written out: a constant calls no function, and a Default would offer
+// values that no call gives.
 pub const NONE: Refused = Refused {
     number: 0,
     needed: 0,

@@ -10,6 +10,8 @@ use testing::records::record;
 use waymaker_core::error::Refusal;
 use waymaker_core::record::Record;
 
+// A call of a case. The calls of test_appends and test_lents are enums of their own: they have no opening, and one enum
+// for all would share three names and no match.
 #[derive(Clone, Copy)]
 enum Call<'a> {
     Open,

@@ -1,5 +1,6 @@
-// Runs recovery over small regions and prints each step: a region of three records, the second never sealed; the same
-// with one bit of that slot programmed; a page that is too small; and the bytes of document 01 that it does not star.
+// Runs recovery over small regions and prints each step: a region of three records; the same with the second never
+// sealed, and with one bit of its slot programmed; a page that is too small; and the bytes of document 01 that it does
+// not star.
 // Then what find and open answer there, and what a payload that is too long gives.
 #![tactic(auto)]
 
