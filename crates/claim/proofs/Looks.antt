@@ -27,10 +27,9 @@ use Rattle.payload.specs.Payload.{part, record_with}
 use Rattle.decode.specs.declared.VerifiedHeader.{VerifiedHeader}
 use Rattle.decode.specs.Decode.{Header, header_at, decoded}
 use Rattle.decode.specs.declared.Frame.{Frame as FrameOf}
-use Rattle.roundtrip.specs.ReadBack.{frame_given}
 use Rattle.roundtrip.proofs.Frames.{header_of_frame, payload_size, payload_small}
 use Rattle.roundtrip.proofs.Fronts.{header_front}
-use Rattle.roundtrip.proofs.RoundTrip.{frame_read, Taken, body_length}
+use Rattle.roundtrip.proofs.RoundTrip.{frame_given, frame_read, Taken, body_length}
 use Rattle.place.specs.declared.Stand.{Stand}
 use Rattle.place.specs.declared.Stand.TheVariants.{Met, Passed}
 use Rattle.place.specs.AtOffset.{redeliverable, settled, judged_by, judged, shape_of, clean_or, stands}
@@ -191,7 +190,7 @@ module _ (a : ℕ) where
         own_parts = append_assoc (frame_of x.kind.0 x.seq.0 (payload_of x free)) (padding_of a p) slot
 
         own_stands : (rest : List ℕ) → stands a (own slot ++ rest) ≡ settled a (frame_given x free) (own slot)
-        unfolding judged
+        unfolding judged frame_given
         own_stands rest =
             let small : p < 65536 = omega (arith, payload_size x free t.size t.typed t.taken, payload_small x free t.size t.typed t.taken) in
             stands_whole _ (own slot) rest own_length

@@ -14,12 +14,12 @@ use Rattle.waymaker_core.proofs.Choice.{cond_case}
 use Rattle.storage.specs.Settings.{allowed, settings}
 use Rattle.storage.proofs.Units.{limits}
 use Rattle.std.proofs.Common.{Option, Some, None}
-use Rattle.text.specs.Text.{place_of, number_of}
+use Rattle.text.specs.Text.{Puts, place_of, number_of}
 use Rattle.text.proofs.Short.{number_short}
 use Rattle.text.proofs.Places.{place_within}
 use Rattle.lines.specs.Lines.{refused_line}
 use Rattle.report.specs.declared.input.Units.{Units}
-use Rattle.report.specs.Report.{listed_with, listed_region, given_by, units_of, listed_by, listing, Prints, Began, Lists}
+use Rattle.report.specs.Report.{listed_with, listed_region, given_by, units_of, listed_by, listing, Began, Lists}
 use Rattle.report.proofs.Room.{whole}
 
 -- two numbers that are units were read
@@ -74,14 +74,12 @@ beginning m h input = go (ltb (length input) m) refl where
       long_refused (take m input) (omega (arith, length-take m input)) ∙ sym (long_refused input (omega (arith, n)))
 
 -- k: how much of the array was listed
-pub lists_whole : (array : List ℕ) (n k : ℕ) (out : List ℕ) (e : ℕ) (out' : List ℕ) → Prints (listing (take k array)) out e out'
+pub lists_whole : (array : List ℕ) (n k : ℕ) (out : List ℕ) (e : ℕ) (out' : List ℕ) → Puts out 0 (listing (take k array)) e out'
     → (m : ℕ) → length array ≡ m → k ≡ min n m → 32779 ≤ m → 102400 ≤ length out → Lists array n out e out'
 lists_whole array n k out e out' p m l ek hm ho =
     record {
-      prints = λ input b. subst (λ t. Prints t out e out') (same input b) p;
+      puts = λ input b. subst (λ t. Puts out 0 t e out') (same input b) p;
       all = λ input b. whole (take k array) out e out' p ho ∙ same input b;
-      within = p.within;
-      part = p.part;
     }
   where
     part : take k array ≡ take n array

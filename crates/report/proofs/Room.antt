@@ -23,13 +23,13 @@ use Rattle.recovery.specs.declared.next.Found.{Found}
 use Rattle.recovery.specs.declared.next.Stepped.{Stepped}
 use Rattle.recovery.specs.Next.{fresh}
 use Rattle.finish.specs.Finish.{found_among, last_of}
-use Rattle.text.specs.Text.{codes, decimal, place_of}
+use Rattle.text.specs.Text.{codes, decimal, Puts, place_of}
 use Rattle.text.proofs.Digits.{decimal_length, decimal_most}
 use Rattle.text.proofs.Puts.{puts_whole}
 use Rattle.report.specs.declared.input.Units.{Units}
 use Rattle.std.proofs.Common.{Option, Some, None}
 use Rattle.lines.specs.Lines.{field, record_line, totals, last_line, end_by, end_line}
-use Rattle.report.specs.Report.{record_lines, record_bytes, lines_of, walk_lines, listed_with, listed_region, units_of, listed_by, listing, Prints}
+use Rattle.report.specs.Report.{record_lines, record_bytes, lines_of, walk_lines, listed_with, listed_region, units_of, listed_by, listing}
 
 joined : (m n : ℕ) (xs ys : List ℕ) → length xs ≤ m → length ys ≤ n → length (xs ++ ys) ≤ m + n
 joined m n xs ys h k = omega (arith, length-append xs ys)
@@ -123,5 +123,5 @@ room input = cond_case Fitting (eqb (place_of 10 input) (length input)) (λ _. o
   go region (Some u) = region_fits u.program_size u.read_size region
 
 -- an output of at least 102,400 bytes holds all of it
-pub whole : (input out : List ℕ) (n : ℕ) (out' : List ℕ) → Prints (listing input) out n out' → 102400 ≤ length out → take n out' ≡ listing input
-whole input out n out' p h = puts_whole (record { ends = p.ends; all = p.over }) (omega (arith, room input))
+pub whole : (input out : List ℕ) (n : ℕ) (out' : List ℕ) → Puts out 0 (listing input) n out' → 102400 ≤ length out → take n out' ≡ listing input
+whole input out n out' p h = puts_whole p (omega (arith, room input))

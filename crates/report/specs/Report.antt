@@ -1,10 +1,10 @@
 -- A listing as document 01 states it: a line for each record that the walk over a region finds, then the last line; and
 -- the input that it is made from. No page and no output's length in it.
-use Rattle.std.specs.Prelude.{◌≡◌, cond, Option, Some, None, Ok, Err, List, [], ◌∷◌, ◌++◌, ℕ, ◌+◌, ◌≤◌}
+use Rattle.std.specs.Prelude.{◌≡◌, cond, Option, Some, None, Ok, Err, List, [], ◌∷◌, ◌++◌, ℕ, ◌+◌}
 use Rattle.std.specs.Prelude.{eqb, ltb, length, take, drop}
 use Rattle.storage.specs.declared.geometry.Geometry.{Geometry}
 use Rattle.storage.specs.Settings.{Checked, settings}
-use Rattle.text.specs.Text.{laid_at, end_at, place_of, number_of}
+use Rattle.text.specs.Text.{Puts, place_of, number_of}
 use Rattle.place.specs.Walk.{plain, Walk, walk}
 use Rattle.recovery.specs.declared.next.Found.{Found as OneFound}
 use Rattle.recovery.specs.declared.next.Stepped.{Stepped}
@@ -67,22 +67,12 @@ listed_by region (Some u) = listed_region u.program_size u.read_size region
 unfoldable pub listing : List ℕ → List ℕ
 listing input = around_first 10 input refused_line (λ line region. listed_by region (units_of line))
 
--- the promise of a listing: a text laid over the start of an output, what does not fit left out, and where it ends
-pub record Prints (text out : List ℕ) (n : ℕ) (out' : List ℕ) : Type 0 where
-  pub ends : n ≡ end_at out 0 text
-  pub over : out' ≡ laid_at out 0 text
-  -- the end lies in the output, said in the two ways that a part `&out[..n]` asks for
-  pub within : n ≤ length out'
-  pub part : n ≡ length (take n out')
-
 -- of a whole input the array holds the beginning: n bytes, all of it or as many as the array has
 pub record Began (whole array : List ℕ) (n : ℕ) : Type 0 where
   pub start : take n array ≡ take (length array) whole
 
--- the promise of the program's listing: whichever input began so, its listing is printed, to the last byte
+-- the promise of the program's listing: whichever input began so, its listing is laid over the output's start, to the
+-- last byte
 pub record Lists (array : List ℕ) (n : ℕ) (out : List ℕ) (e : ℕ) (out' : List ℕ) : Type 0 where
-  pub prints : (whole : List ℕ) → Began whole array n → Prints (listing whole) out e out'
+  pub puts : (whole : List ℕ) → Began whole array n → Puts out 0 (listing whole) e out'
   pub all : (whole : List ℕ) → Began whole array n → take e out' ≡ listing whole
-  -- the end lies in the output, as above
-  pub within : e ≤ length out'
-  pub part : e ≡ length (take e out')

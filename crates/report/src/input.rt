@@ -1,7 +1,8 @@
 // What standard input says: a line with the two units, then the region.
-ghost use Rattle.std.specs.Prelude.{◌≡◌};
+ghost use Rattle.std.specs.Prelude.{◌≡◌, ◌≤◌, length};
+ghost use Rattle.text.specs.Text.{Puts};
 ghost use Rattle.text.specs.Pieces.{Lays};
-ghost use Rattle.report.specs.Report.{units_of, listing, Prints, Lists};
+ghost use Rattle.report.specs.Report.{units_of, listing, Lists};
 ghost use Rattle.report.specs.Inside.{Says};
 
 use crate::run::report;
@@ -72,7 +73,8 @@ fn put_listing(out: &mut Output, input: &[u8])
 // Lays the listing of an input over the start of the output and answers where it ends. What does not fit is left out.
 // The end and no part: what stood behind it stands there still, for the caller that lent it to read.
 pub fn list(input: &[u8], out: &mut [u8]) -> usize
-    ensures { Prints (listing input.now) out.old result out.new }
+    ensures puts { Puts out.old 0 (listing input.now) result out.new }
+    ensures within { result ≤ length out.new }
 {
     let mut output = Output::new(out);
     put_listing(&mut output, input);
@@ -83,7 +85,8 @@ pub fn list(input: &[u8], out: &mut [u8]) -> usize
 // The count stands beside the array since a slice of n bytes would not say whether more of the input had found room.
 #[tactic(auto, using(crate::proofs::Beginnings::lists_whole))]
 pub fn list_input(input: &[u8; INPUT_ROOM], n: usize, out: &mut [u8; LISTING_ROOM]) -> usize
-    ensures { Lists input.now n out.old result out.new }
+    ensures lists { Lists input.now n out.old result out.new }
+    ensures within { result ≤ length out.new }
 {
     list(&input[..n.min(input.len())], out)
 }
