@@ -68,35 +68,42 @@ pub record HoldsWith (page : List ℕ) (x : Row) : Type 0 where
 abbrev pub Holds : Row → Type 0
 Holds x = (page : List ℕ) → Large page → HoldsWith page x
 
+-- every row of a list holds
 abbrev pub AllHold : List Row → Type 0
 AllHold [] = Unit {0}
 AllHold (x ∷ xs) = Holds x × AllHold xs
 
 -- # The words of a row
 
+-- a row: its calls and cuts, then its book
 abbrev pub row : List RowEntry → Bool → Way → List Given → Row
 row es journal way records = record { entries = es; book = record { journal = journal; way = way; records = records } }
 
+-- a call that is not refused
 abbrev pub goes : Call → RowEntry
 goes c = does c unrefused
 
+-- a call that is refused
 abbrev pub refused : Call → Refusal → RowEntry
 refused c e = does c (refused_with e)
 
--- an opening, and a stage, whose page is yet to be lent
+-- an opening, whose page is yet to be lent
 abbrev pub an_opening : Call
 an_opening = opening []
 
+-- a stage, likewise
 abbrev pub a_stage : Given → Call
 a_stage x = stage x []
 
--- an opening and a stage; these and the payload barrier; the three steps of an append
+-- an opening and a stage
 abbrev pub to_stage : Given → List RowEntry
 to_stage x = goes an_opening ∷ goes (a_stage x) ∷ []
 
+-- these and the payload barrier
 abbrev pub to_barrier : Given → List RowEntry
 to_barrier x = goes an_opening ∷ goes (a_stage x) ∷ goes barrier ∷ []
 
+-- the three steps of an append
 abbrev pub appends : Given → List RowEntry
 appends x = goes (a_stage x) ∷ goes barrier ∷ goes commit ∷ []
 
@@ -180,10 +187,12 @@ marker = giving 9 4 12 65535 0 []
 abbrev pub said : RecordRef → List ℕ → Said
 said x payload = record { «record» = Known x; payload = payload }
 
+-- one record of each kind
 abbrev pub nine : List Given
 nine =
     started ∷ scheduled ∷ completed ∷ failed ∷ armed ∷ fired ∷ finished ∷ broken ∷ marker ∷ []
 
+-- what a caller reads of the nine
 abbrev pub nine_said : List Said
 nine_said =
     said (RunStarted 7 2 (part 16 2)) (7 ∷ 0 ∷ 2 ∷ 0 ∷ 0x68 ∷ 0x69 ∷ [])
@@ -199,15 +208,17 @@ nine_said =
     ∷ said (VersionMarker (record { 0 = 4 }) (record { 0 = 12 }) 65535) (12 ∷ 0 ∷ 0xff ∷ 0xff ∷ [])
     ∷ []
 
--- the region at first; one with the body of x programmed at o
+-- the region at first
 abbrev pub blank : List ℕ
 blank = replicate 64 255
 
+-- a region with the body of x programmed at o
 abbrev pub bodied : List ℕ → ℕ → Given → List ℕ
 bodied s o x = programmed s o (body_for 4 x.«record» x.free)
 
 -- # The rows
 
+-- appends, of which a record may be too long for the region
 abbrev pub appending : List Row
 appending =
     -- one record
@@ -249,5 +260,6 @@ skipping =
     true nothing (fired ∷ [])
     ∷ []
 
+-- the rows of this file
 abbrev pub table : List Row
 table = appending ++ skipping

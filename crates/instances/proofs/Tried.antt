@@ -17,12 +17,12 @@ use Rattle.staging.specs.Stage.{as_staged, begins, staged}
 use Rattle.append.specs.Append.{barred, after_commit, committed}
 use Rattle.claim.specs.Instances.{AllHold}
 use Rattle.claim.proofs.Instances.{traced, tried, expected, rows_hold}
-use Rattle.instances.specs.Table.{table}
+use Rattle.instances.specs.Table.{more_rows}
 
 -- the whole table, computed
-tried_table : map tried table ≡ map expected table
+tried_table : map tried more_rows ≡ map expected more_rows
 unfolding traced walk walk_over stands shape_of erased programmed_from programmed ands bit_step bit_steps octet octets fcs header_check frame_check bytes_le value_le field_bytes fields body_len record_len well_given payload_fits payload_len numbers_of payload_of checked_header header_of covered_of check_of frame_of padding_of seal_byte seal_from body_of sealed_from seal_holds widths round_up length_fits record_with well_formed body_at header_at frame_under decoded settled judged known seq_fits run_scoped has_free one_of free_fits clock_known clock_fits numbers_len allowed region_length program_unit read_unit unit_up_to as_staged on_device under_way begins staged is_next confirmed barred after_commit committed
 tried_table = refl
 
-pub table_holds : AllHold table
-table_holds = rows_hold table tried_table
+pub table_holds : AllHold more_rows
+table_holds = rows_hold more_rows tried_table

@@ -182,5 +182,6 @@ cutting_in =
     false nothing []
     ∷ []
 
-abbrev pub table : List Row
-table = refusing ++ reopening ++ cutting ++ cutting_in
+-- the rows of this file
+abbrev pub more_rows : List Row
+more_rows = refusing ++ reopening ++ cutting ++ cutting_in

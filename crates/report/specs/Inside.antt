@@ -22,6 +22,6 @@ pub record Reports (s : Recovery) (region page : List ℕ) (out out' : Output) (
 -- the settings and the region that an input says, or none where it is refused: through every page of at least 32,768
 -- bytes their lines are its listing
 abbrev pub Says : List ℕ → Option (Geometry × Bor (List ℕ)) → Type 0
-Says input r =
-    MatchOption r (listing input ≡ refused_line)
+Says input x =
+    MatchOption x (listing input ≡ refused_line)
     (λ p. (page : List ℕ) → 32768 ≤ length page → paged_lines (fresh p.0) p.1.now page ≡ listing input)

@@ -4,13 +4,15 @@ use Rattle.std.specs.Int.{w16, w32, w64, from_le_bytes}
 use Rattle.waymaker_core.specs.declared.record.Record.{Record}
 use Rattle.waymaker_core.specs.Kinds.{from_numbers}
 
--- the number of the bytes from a place on: of two, of four, of eight
+-- the number of the two bytes from a place on
 abbrev pub two_at : List ℕ → ℕ → ℕ
 two_at s i = from_le_bytes w16 (take 2 (drop i s))
 
+-- of the four
 abbrev pub four_at : List ℕ → ℕ → ℕ
 four_at s i = from_le_bytes w32 (take 4 (drop i s))
 
+-- of the eight
 abbrev pub eight_at : List ℕ → ℕ → ℕ
 eight_at s i = from_le_bytes w64 (take 8 (drop i s))
 

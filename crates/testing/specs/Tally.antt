@@ -7,6 +7,7 @@ use Rattle.testing.specs.declared.tally.Tally.{Tally}
 abbrev pub one_more : ℕ → ℕ
 one_more n = min (n + 1) 4294967295
 
+-- a tally of these parts
 abbrev pub tally : ℕ → ℕ → Option ℕ → Tally
 tally g b f = record { good = g; bad = b; first = f }
 

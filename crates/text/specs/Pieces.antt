@@ -11,6 +11,6 @@ pub record Lays (old : Output) (s : List ℕ) (new : Output) : Type 0 where
 
 -- the parts of s before and behind its first byte b; none where s has no such byte
 abbrev pub Parts : ℕ → List ℕ → Option (Bor (List ℕ) × Bor (List ℕ)) → Type 0
-Parts b s r =
+Parts b s x =
     let at = place_of b s in
-    MatchOption r (at ≡ length s) (λ p. (at < length s) × (p.0.now ≡ take at s) × (p.1.now ≡ drop (at + 1) s))
+    MatchOption x (at ≡ length s) (λ p. (at < length s) × (p.0.now ≡ take at s) × (p.1.now ≡ drop (at + 1) s))
