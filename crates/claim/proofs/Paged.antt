@@ -34,7 +34,7 @@ use Rattle.recovery.specs.declared.next.Found.{Found as OneFound}
 use Rattle.recovery.specs.Next.{Answer, arrived, walk_from, page_after, with_page, step_in, step, NextStep, part_at}
 use Rattle.recovery.specs.declared.next.Stepped.{Stepped}
 use Rattle.look.specs.Reads.{capacity_of, Read, laid, further, header_size, wanted, made, seen_by, paged, reads_at, reads_all}
-use Rattle.look.proofs.Fronts.{capped, front_read}
+use Rattle.look.proofs.Fronts.{capped, capped_most, front_read}
 use Rattle.look.proofs.Near.{paged_steady, laid_long, laid_append}
 use Rattle.finish.proofs.Steps.{not_found, Before, looks, says, unless, view, IsBefore, is_before, step_view}
 use Rattle.claim.proofs.Said.{said_in}
@@ -219,8 +219,9 @@ module _ (s : Recovery) (region page : List ℕ) where
     go looks k =
         let g = s.geometry in
         let c = capped (length page) g.read_size _ refl in
+        let m = capped_most (length page) g.read_size _ refl in
         paged_arrived (first_step (walk_from s region (length page))) (page_after s region (step_offsets (walk_from s region (length page)).points (walk_from s region (length page)).at) page)
-        (holds_walk region g.program_size g.read_size (capacity_of (length page) g.read_size) (limits g.bytes g.program_size g.read_size k.units).program_least s.offset page (omega (arith, c.all, c.most)))
+        (holds_walk region g.program_size g.read_size (capacity_of (length page) g.read_size) (limits g.bytes g.program_size g.read_size k.units).program_least s.offset page (omega (arith, c, m)))
 
 -- The payload of a record that a step finds is that part of the page which its place and length give, with the bytes that stand in the region.
 pub payload_paged : (s : Recovery) (region page : List ℕ) (out : Stepped) (page' : List ℕ) → NextStep s region page out page' → (f : OneFound) → out.answer ≡ Ok (Some f)
