@@ -1,2 +1,3 @@
 -- The laws of the checks.
 pub mod Steps
+pub mod ByTable

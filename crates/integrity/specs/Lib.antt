@@ -1,2 +1,3 @@
--- The definition of the two checks.
+-- The definition of the two checks, and of the tables that they look up.
 pub mod Fcs
+pub mod Tables
