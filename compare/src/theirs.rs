@@ -246,9 +246,13 @@ fn written(counts: WriteAmplification) -> Written {
 type TheirJournal = append::Journal<Fcs>;
 
 /// Recovery to its end, and the journal made from it; 3 with the length it gave if it was incomplete, else 11.
-pub fn open(memory: &mut Memory<'_>, program: u16, page: &mut [u8]) -> Option<Result<TheirJournal, Refused>> {
+pub fn open<C: IntegrityCheck>(
+    memory: &mut Memory<'_>,
+    program: u16,
+    page: &mut [u8],
+) -> Option<Result<append::Journal<C>, Refused>> {
     let region = journal_region(memory, program)?;
-    let mut state = Recovery::<_, Fcs>::with_integrity(region, memory);
+    let mut state = Recovery::<_, C>::with_integrity(region, memory);
     let mut refused = Refused::plain(11);
     while let Some(step) = state.next(page) {
         if let Err(error @ RecoveryError::PageTooSmall { .. }) = step {
@@ -377,7 +381,7 @@ fn counts(align: u16, free_len: usize, doublings: &[bool]) -> Option<Answer> {
     let mut bytes = vec![0xFF; 32 + free_len + 2 * usize::from(align)];
     let mut page = vec![BEFORE; bytes.len()];
     let mut memory = Memory::new(&mut bytes, 1).ok()?;
-    let mut journal = open(&mut memory, align, &mut page)?.ok()?;
+    let mut journal = open::<Fcs>(&mut memory, align, &mut page)?.ok()?;
     let free = vec![0; free_len];
     let record = RecordRef::RunCompleted { result: &free };
     let staged = journal.stage(&mut memory, &record, &mut page).ok()?;
@@ -394,11 +398,21 @@ fn counts(align: u16, free_len: usize, doublings: &[bool]) -> Option<Answer> {
 #[cfg(test)]
 mod tests {
     use super::*;
+    use oracle::fcs::FcsByTable;
 
     #[test]
     fn the_checks_are_those_of_rfc_1662() {
         let answer = Theirs.answer(&Case::Checks { bytes: b"123456789".to_vec() });
         assert_eq!(answer, Answer::Checks { header: 0x906E, frame: 0xCBF4_3926 });
+    }
+
+    #[test]
+    fn the_tables_check_as_the_bits_do() {
+        let bytes: Vec<u8> = (0..=255).chain((0..=255).rev()).collect();
+        for message in (0..bytes.len()).flat_map(|from| [&bytes[from..], &bytes[..from], &bytes[from..=from]]) {
+            assert_eq!(FcsByTable::header_check(message), Fcs::header_check(message));
+            assert_eq!(FcsByTable::frame_check(message), Fcs::frame_check(message));
+        }
     }
 
     #[test]

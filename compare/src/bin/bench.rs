@@ -1,5 +1,8 @@
 //! bench: the time of each call on our side and in the Rust, from one driver and the same buffers, as a ratio.
 //!
+//!     bench          the Rust's two checks by table, as ours are
+//!     bench --bits   the Rust's two checks bit by bit
+//!
 //! The two sides take turns, and the least time of all rounds counts: what else the machine does can only add to it.
 
 use compare::bytes;
@@ -7,11 +10,14 @@ use compare::model::{Record, Units};
 use compare::ours;
 use compare::theirs;
 use oracle::RecordRef;
-use oracle::fcs::Fcs;
+use oracle::fcs::{Fcs, FcsByTable};
 use oracle::frame::{self, ProgramAlign, Scan};
+use oracle::integrity::IntegrityCheck;
 use oracle::memory::Memory;
 use oracle::recovery::Recovery;
+use std::env;
 use std::hint::black_box;
+use std::process::ExitCode;
 use std::time::{Duration, Instant};
 
 const UNITS: Units = Units { program: 4, read: 4 };
@@ -24,30 +30,31 @@ const TURN: Duration = Duration::from_millis(4);
 /// Runs something so many times and says how long that took, without what had to be set up.
 type Turn<'a> = &'a mut dyn FnMut(usize) -> Duration;
 
-fn main() {
-    println!(
-        "Times in ns, the least of {ROUNDS} rounds. a = 4, r = 4, records of kind 3. The Rust's two checks are plain loops"
-    );
-    println!("over bits, as written in the stand-in; its compiler may turn such a loop into a table by itself.\n");
+fn main() -> ExitCode {
+    let mut words = env::args().skip(1);
+    match (words.next().as_deref(), words.next()) {
+        (None, _) => all::<FcsByTable>("Both sides check by table, one lookup an octet."),
+        (Some("--bits"), None) => {
+            all::<Fcs>("The Rust checks by loops over bits, of which its compiler may make a table.")
+        }
+        _ => {
+            eprintln!("usage: bench [--bits]");
+            return ExitCode::from(2);
+        }
+    }
+    ExitCode::SUCCESS
+}
+
+/// Every call at every length, with the Rust's checks made by C.
+fn all<C: IntegrityCheck>(method: &str) {
+    println!("{method} Times in ns, the least of {ROUNDS} rounds. a = 4, r = 4, records of kind 3.\n");
     println!("| call | payload bytes | ours | Rust | ratio | ratio of medians |");
     println!("|---|---:|---:|---:|---:|---:|");
-    for payload in PAYLOADS {
-        encode(payload);
-    }
-    for payload in PAYLOADS {
-        decode(payload);
-    }
-    for payload in PAYLOADS {
-        scan(payload);
-    }
-    for payload in PAYLOADS {
-        recovery(payload);
-    }
-    for payload in PAYLOADS {
-        append(payload);
+    for call in [encode::<C>, decode::<C>, scan::<C>, recovery::<C>, append::<C>] {
+        PAYLOADS.into_iter().for_each(call);
     }
     for page_len in [512, LONGEST_PAGE] {
-        erased_tail(page_len);
+        erased_tail::<C>(page_len);
     }
 }
 
@@ -96,7 +103,7 @@ fn align() -> ProgramAlign {
     ProgramAlign::new(UNITS.program).unwrap_or(ProgramAlign::BYTE)
 }
 
-fn encode(payload: usize) {
+fn encode<C: IntegrityCheck>(payload: usize) {
     let free = free_bytes(payload);
     let mut out = vec![0; bytes::record_len(payload, UNITS.program)];
     let mut other = out.clone();
@@ -114,13 +121,13 @@ fn encode(payload: usize) {
         &mut |times| {
             timed(times, || {
                 let Some(given) = theirs::record_ref(black_box(&record), black_box(&free)) else { return };
-                black_box(frame::encode_with::<Fcs>(&given, align(), &mut other)).ok();
+                black_box(frame::encode_with::<C>(&given, align(), &mut other)).ok();
             })
         },
     );
 }
 
-fn decode(payload: usize) {
+fn decode<C: IntegrityCheck>(payload: usize) {
     let frame = bytes::frame(1, 3, 7, &free_bytes(payload));
     compare(
         "decode",
@@ -133,7 +140,7 @@ fn decode(payload: usize) {
         },
         &mut |times| {
             timed(times, || {
-                black_box(frame::decode_with::<Fcs>(black_box(&frame))).ok();
+                black_box(frame::decode_with::<C>(black_box(&frame))).ok();
             })
         },
     );
@@ -148,7 +155,7 @@ fn journal(payload: usize) -> (Vec<u8>, usize) {
     (region, records)
 }
 
-fn scan(payload: usize) {
+fn scan<C: IntegrityCheck>(payload: usize) {
     let (region, records) = journal(payload);
     compare(
         "scan, per record",
@@ -164,7 +171,7 @@ fn scan(payload: usize) {
         },
         &mut |times| {
             timed(times, || {
-                for step in Scan::<Fcs>::with_integrity(black_box(&region), align()) {
+                for step in Scan::<C>::with_integrity(black_box(&region), align()) {
                     black_box(step).ok();
                 }
             })
@@ -181,16 +188,16 @@ fn recover_ours(region: &[u8], page: &mut [u8]) {
 }
 
 /// A recovery of the Rust to its end.
-fn recover_theirs(region: &mut [u8], page: &mut [u8]) {
+fn recover_theirs<C: IntegrityCheck>(region: &mut [u8], page: &mut [u8]) {
     let Ok(mut memory) = Memory::new(black_box(region), u32::from(UNITS.read)) else { return };
     let Some(region) = theirs::journal_region(&memory, UNITS.program) else { return };
-    let mut state = Recovery::<_, Fcs>::with_integrity(region, &mut memory);
+    let mut state = Recovery::<_, C>::with_integrity(region, &mut memory);
     while let Some(step) = state.next(page) {
         black_box(&step);
     }
 }
 
-fn recovery(payload: usize) {
+fn recovery<C: IntegrityCheck>(payload: usize) {
     let (region, records) = journal(payload);
     let mut other = region.clone();
     let mut page = vec![0; LONGEST_PAGE];
@@ -200,11 +207,11 @@ fn recovery(payload: usize) {
         &payload.to_string(),
         records,
         &mut |times| timed(times, || recover_ours(&region, &mut page)),
-        &mut |times| timed(times, || recover_theirs(&mut other, &mut other_page)),
+        &mut |times| timed(times, || recover_theirs::<C>(&mut other, &mut other_page)),
     );
 }
 
-fn erased_tail(page_len: usize) {
+fn erased_tail<C: IntegrityCheck>(page_len: usize) {
     let region = vec![0xFF; 16 << 20];
     let mut other = region.clone();
     let mut page = vec![0; page_len];
@@ -214,12 +221,12 @@ fn erased_tail(page_len: usize) {
         "-",
         1,
         &mut |times| timed(times, || recover_ours(&region, &mut page)),
-        &mut |times| timed(times, || recover_theirs(&mut other, &mut other_page)),
+        &mut |times| timed(times, || recover_theirs::<C>(&mut other, &mut other_page)),
     );
 }
 
 /// Appends that fill a region, one after the other. Erasing it and opening the journal are not timed.
-fn append(payload: usize) {
+fn append<C: IntegrityCheck>(payload: usize) {
     let free = free_bytes(payload);
     let records = (262_144 / (payload + 20)).clamp(4, 512);
     let mut region = vec![0xFF; records * bytes::record_len(payload, UNITS.program)];
@@ -232,7 +239,9 @@ fn append(payload: usize) {
         records,
         &mut |times| (0..times).map(|_| append_ours(&free, records, &mut region, &mut page).unwrap_or_default()).sum(),
         &mut |times| {
-            (0..times).map(|_| append_theirs(&free, records, &mut other, &mut other_page).unwrap_or_default()).sum()
+            (0..times)
+                .map(|_| append_theirs::<C>(&free, records, &mut other, &mut other_page).unwrap_or_default())
+                .sum()
         },
     );
 }
@@ -251,10 +260,15 @@ fn append_ours(free: &[u8], records: usize, region: &mut [u8], page: &mut [u8]) 
     Some(start.elapsed())
 }
 
-fn append_theirs(free: &[u8], records: usize, region: &mut [u8], page: &mut [u8]) -> Option<Duration> {
+fn append_theirs<C: IntegrityCheck>(
+    free: &[u8],
+    records: usize,
+    region: &mut [u8],
+    page: &mut [u8],
+) -> Option<Duration> {
     region.fill(0xFF);
     let mut memory = Memory::new(region, u32::from(UNITS.read)).ok()?;
-    let mut journal = theirs::open(&mut memory, UNITS.program, page)?.ok()?;
+    let mut journal = theirs::open::<C>(&mut memory, UNITS.program, page)?.ok()?;
     let record = Record { kind: 3, seq: 7, ..Record::default() };
     let start = Instant::now();
     for _ in 0..records {

@@ -1,3 +1,3 @@
--- The definition of the two checks, and of the tables that they look up.
+-- The definition of the two checks.
 pub mod Fcs
-pub mod Tables
+pub mod Inside
