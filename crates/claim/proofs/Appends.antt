@@ -13,7 +13,7 @@ use Rattle.waymaker_core.specs.declared.error.DecodeError.{DecodeError}
 use Rattle.waymaker_core.proofs.Choice.{cond_case}
 use Rattle.integrity.specs.Fcs.{header_check}
 use Rattle.storage.specs.Media.{programmed}
-use Rattle.storage.proofs.ErasedBytes.{erased_is}
+use Rattle.storage.proofs.ErasedBytes.{erased_is, Blank, erased_blank, blank_erased, blank_take, blank_drop}
 use Rattle.frame.specs.Bytes.{bytes_le, value_le, value_at}
 use Rattle.frame.proofs.Sizes.{body_mono, body_least}
 use Rattle.frame.specs.Lengths.{body_len, record_len}
@@ -35,7 +35,7 @@ use Rattle.staging.specs.Stage.{check_for, body_for}
 use Rattle.claim.specs.Cuts.{Mixed, Cut}
 use Rattle.claim.specs.Saying.{Given, payload_for, given}
 use Rattle.claim.proofs.Bits.{mixed_same, mixed_least}
-use Rattle.claim.proofs.Tears.{replicate_bytes, Blank, erased_blank, blank_erased, blank_drop, program_at, ands_blank, cut_rest, cut_split}
+use Rattle.claim.proofs.Tears.{replicate_bytes, program_at, ands_blank, cut_rest, cut_split}
 use Rattle.claim.proofs.Calm.{Calm}
 use Rattle.claim.proofs.Looks.{looked_whole, calm_unsealed, calm_torn}
 use Rattle.claim.proofs.Passing.{Passes, Shape, Ready, passes_both, passes_found, ready_shape}
@@ -78,12 +78,6 @@ body_bytes a x t =
     bytes_append (covered_of k q s ++ bytes_le 4 (check_of k q s)) (replicate (body_len a (length s) - (16 + length s)) 255)
     (bytes_append (covered_of k q s) (bytes_le 4 (check_of k q s)) (covered_bytes k q s t.kind (payload_bytes x.«record» x.free t.free_bytes)) (number_bytes 4 (check_of k q s)))
     (replicate_bytes (body_len a (length s) - (16 + length s)))
-
-blank_take : (n : ℕ) (t : List ℕ) → Blank t → Blank (take n t)
-blank_take zero t e i = refl
-blank_take (suc n) [] e i = refl
-blank_take (suc n) (x ∷ t) e zero = e 0
-blank_take (suc n) (x ∷ t) e (suc i) = blank_take n t (λ j. e (suc j)) i
 
 -- erased bytes are no seal
 no_seal : (c : ℕ) (s : List ℕ) → Blank s → seal_holds c s ≡ false

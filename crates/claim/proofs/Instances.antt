@@ -30,7 +30,7 @@ use Rattle.roundtrip.specs.Typed.{AllBytes, Typed}
 use Rattle.journal.specs.declared.Journal.{Journal}
 use Rattle.journal.specs.Opening.{Opening, opening_of}
 use Rattle.progress.specs.Phases.{unit_of, on_device, is_next, confirmed, under_way}
-use Rattle.staging.specs.Stage.{room_of, staged_with, as_staged, begins, staged}
+use Rattle.staging.specs.Stage.{room_of, coming, staged_with, as_staged, begins, staged}
 use Rattle.append.specs.Append.{barred, after_commit, committed}
 use Rattle.claim.specs.Cuts.{bit, Mixed, Cut}
 use Rattle.claim.specs.Saying.{Given, given, all_given}
@@ -226,7 +226,8 @@ module _ (m : Machine) (j : Journal) (x : Given) (p q : List ℕ) (hp : j.geomet
           cond_same (stepped m) (ltb (room_of j) (record_len (unit_of j) n)) (λ _. refl)
           (λ l.
           let k : record_len (unit_of j) n ≤ room_of j = ltb-false (room_of j) (record_len (unit_of j) n) l in
-          rw (le-ltb (length p) (record_len (unit_of j) n) (omega arith), le-ltb (length q) (record_len (unit_of j) n) (omega arith)))
+          cond_same (stepped m) (not (erased (coming j n m.region))) (λ _. refl)
+          (λ _. rw (le-ltb (length p) (record_len (unit_of j) n) (omega arith), le-ltb (length q) (record_len (unit_of j) n) (omega arith))))
 
 -- a large page
 module _ (page : List ℕ) (h : Large page) where

@@ -7,9 +7,8 @@ use mathlib.Core.List.{List, [], ◌∷◌, ◌++◌}
 use Prim.Native.Nat.{ℕ, zero, suc, ◌+◌, ◌-◌, ◌≤◌, ◌<◌}
 use native.Mathlib.Omega.{arith}
 use lib.Bits.{and_le_l}
-use lib.Dec.{eqb, ltb, leb}
+use lib.Dec.{eqb, leb}
 use lib.ListN.{length, take, drop, replicate, length-append, length-replicate}
-use borrow.Author.Tests.{ltb-false}
 use Rattle.waymaker_core.specs.declared.error.Refusal.{Refusal}
 use Rattle.waymaker_core.proofs.Choice.{cond_case}
 use Rattle.storage.specs.declared.geometry.Geometry.{Geometry}
@@ -19,7 +18,7 @@ use Rattle.storage.specs.Media.{ands, programmed}
 use Rattle.storage.proofs.Units.{allowed_is, limits}
 use Rattle.storage.proofs.ErasedBytes.{erased_replicate}
 use Rattle.storage.proofs.Programming.{programmed_length}
-use Rattle.frame.specs.Lengths.{Size, body_len, record_len, payload_len}
+use Rattle.frame.specs.Lengths.{body_len, record_len, payload_len}
 use Rattle.frame.specs.Format.{seal_of, seal_holds}
 use Rattle.recovery.specs.Next.{fresh}
 use Rattle.look.proofs.Pages.{front_bytes, capacity_large}
@@ -35,7 +34,8 @@ use Rattle.counts.specs.declared.WriteAmplification.{WriteAmplification}
 use Rattle.journal.specs.declared.Journal.{Journal}
 use Rattle.journal.specs.Opening.{Opening, opening_of, opened}
 use Rattle.progress.specs.Phases.{unit_of, StepLeft, keeps as refusing, on_device, is_next, confirmed, under_way}
-use Rattle.staging.specs.Stage.{check_for, body_for, staged_with, begins, staged}
+use Rattle.staging.specs.Stage.{check_for, body_for, begins, staged}
+use Rattle.staging.proofs.Outcomes.{stage_case}
 use Rattle.append.specs.Append.{barred, after_commit, committed}
 use Rattle.counts.specs.Counts.{counts, unwritten as nothing_written, plus}
 use Rattle.claim.specs.Cuts.{Cut}
@@ -185,11 +185,10 @@ module _ (n a r : ℕ) (ok : allowed n a r ≡ true) where
     i₀ = ready_inv s o w bs x v
 
     -- a record that stage takes
-    began : (y : Given) (p : ℕ) → Typed y.«record» y.free → payload_len y.«record» (length y.free) ≡ Ok p → ltb (n - o) (record_len a p) ≡ false
+    began : (y : Given) (p : ℕ) → Typed y.«record» y.free → payload_len y.«record» (length y.free) ≡ Ok p → record_len a p ≤ n - o
         → Busy a s (programmed s o (body_for a y.«record» y.free)) o y bs
-    began y p t e l =
+    began y p t e k =
         let q : length (payload_for y) ≡ p = payload_size y.«record» y.free p t e in
-        let k : record_len a p ≤ n - o = ltb-false (n - o) (record_len a p) l in
         record {
           ready = v;
           taken = record { typed = t; size = p; taken = e };
@@ -198,26 +197,20 @@ module _ (n a r : ℕ) (ok : allowed n a r ≡ true) where
         }
 
     ready_stage : (y : Given) (page : List ℕ) → Typed y.«record» y.free → Keeps s₀ (stage y page) (done a r m₀ (stage y page))
-    unfolding staged begins under_way
-    ready_stage y page t = on_device_lem P (idle o w) s page _ (λ e. no_stage s₀ i₀ _ y page) (go (payload_len y.«record» (length y.free)) refl) where
-      P : StepLeft → Type 0
-      P l = Keeps s₀ (stage y page) (stepped m₀ l)
-
-      go : (z : Size) → payload_len y.«record» (length y.free) ≡ z → P (staged_with (idle o w) y.«record» y.free s page z)
-      go (Err e) f = no_stage s₀ i₀ _ y page
-      go (Ok p) f =
-          cond_case P (ltb (n - o) (record_len a p)) (λ _. no_stage s₀ i₀ _ y page)
-          (λ l. cond_case P (ltb (length page) (record_len a p)) (λ _. no_stage s₀ i₀ _ y page)
-          (λ _.
-          let body : List ℕ = body_for a y.«record» y.free in
-          let s' : List ℕ = programmed s o body in
-          let x' : Sound s' = sound_programmed s o body x in
-          record {
-            kept =
-                subst (λ q. Inv (at (machine s' s (holds (busy 1 o y q (plus w (counts q (body_len a q) 1 0))))) true (under y) bs)) (payload_size y.«record» y.free p t f)
-                (staged_inv s s' o y (plus w (counts (length (payload_for y)) (body_len a (length (payload_for y))) 1 0)) bs x x' (began y p t f l));
-            torn = λ u c. lost_inv u bs (sound_cut s s' u x x' c) (torn_body a some s s' o y bs (began y p t f l) u c);
-          }))
+    unfolding begins under_way
+    ready_stage y page t =
+        stage_case (λ l. Keeps s₀ (stage y page) (stepped m₀ l)) (idle o w) y.«record» y.free s page (λ e. no_stage s₀ i₀ e y page)
+        (λ p g.
+        let body : List ℕ = body_for a y.«record» y.free in
+        let s' : List ℕ = programmed s o body in
+        let x' : Sound s' = sound_programmed s o body x in
+        let b : Busy a s s' o y bs = began y p t g.payload g.room in
+        record {
+          kept =
+              subst (λ q. Inv (at (machine s' s (holds (busy 1 o y q (plus w (counts q (body_len a q) 1 0))))) true (under y) bs)) (payload_size y.«record» y.free p t g.payload)
+              (staged_inv s s' o y (plus w (counts (length (payload_for y)) (body_len a (length (payload_for y))) 1 0)) bs x x' b);
+          torn = λ u c. lost_inv u bs (sound_cut s s' u x x' c) (torn_body a some s s' o y bs b u c);
+        })
 
     ready_barrier : Keeps s₀ barrier (done a r m₀ barrier)
     unfolding barred is_next

@@ -12,5 +12,6 @@ pub mod Growth
 pub mod Playing
 pub mod Reading
 pub mod Demand3
+pub mod Erased
 pub mod Consequences
 pub mod Instances

@@ -1,40 +1,16 @@
--- Regions byte by byte: erased parts, programming over them, and what a cut leaves.
+-- Regions byte by byte: programming over erased parts, and what a cut leaves.
 -- Assumes nothing.
 use mathlib.Core.Path.{◌≡◌, refl, sym, ap, ◌∙◌}
-use mathlib.Core.Bool.{true, and-eq-true_iff}
 use mathlib.Core.List.{List, [], ◌∷◌, ◌++◌}
 use Prim.Native.Nat.{ℕ, zero, suc, ◌+◌, ◌≤◌, ◌<◌}
 use native.Mathlib.Omega.{arith}
-use lib.Dec.{eqb}
 use lib.ListN.{length, get_or, take, drop, replicate, length-append, take-append-drop, get_or-append}
 use lib.Seq.{take-append_seam, drop-append_seam, get_or-drop, get_or-take, get_or-append-add, ext_get_or, length-take-le}
-use borrow.Author.Tests.{eqb-true, eq-eqb}
-use Rattle.storage.specs.Media.{erased, ands, programmed}
-use Rattle.storage.proofs.ErasedBytes.{erased_nil, erased_cons}
+use Rattle.storage.specs.Media.{ands, programmed}
+use Rattle.storage.proofs.ErasedBytes.{Blank}
 use Rattle.roundtrip.specs.Typed.{AllBytes}
 use Rattle.claim.specs.Cuts.{Mixed, Cut}
 use Rattle.claim.proofs.Bits.{mixed_same, programmed_erased, mixed_byte}
-
--- every byte of t is 0xFF; past its end all are taken to be
-abbrev pub Blank : List ℕ → Type 0
-Blank t = (i : ℕ) → get_or t i 255 ≡ 255
-
-blank_cons : (x : ℕ) (t : List ℕ) → x ≡ 255 → Blank t → Blank (x ∷ t)
-blank_cons x t p e zero = p
-blank_cons x t p e (suc i) = e i
-
-pub erased_blank : (t : List ℕ) → erased t ≡ true → Blank t
-erased_blank [] h = λ i. refl
-erased_blank (x ∷ t) h =
-    let both = (and-eq-true_iff (eqb x 255) (erased t)).0 (sym (erased_cons x t) ∙ h) in
-    blank_cons x t (eqb-true x 255 both.0) (erased_blank t both.1)
-
-pub blank_erased : (t : List ℕ) → Blank t → erased t ≡ true
-blank_erased [] e = erased_nil
-blank_erased (x ∷ t) e = erased_cons x t ∙ (and-eq-true_iff (eqb x 255) (erased t)).1 (eq-eqb x 255 (e 0), blank_erased t (λ i. e (suc i)))
-
-pub blank_drop : (t : List ℕ) (n : ℕ) → Blank t → Blank (drop n t)
-blank_drop t n e i = get_or-drop n t i 255 ∙ e (n + i)
 
 -- programming at a place that a front ends at
 pub program_at : (f t s : List ℕ) → programmed (f ++ t) (length f) s ≡ f ++ ands t s

@@ -1,6 +1,7 @@
 -- Demand 3: the claim, a clause for each thing that the demand claims.
 -- A region of n bytes, program unit a, read unit r; es is the list: calls, refused ones too, and cuts.
 use Rattle.std.specs.Prelude.{◌≡◌, true, List, ◌∷◌, ◌++◌, ℕ, drop, Ok}
+use Rattle.waymaker_core.specs.declared.error.Refusal.TheVariants.{NotErased}
 use Rattle.storage.specs.declared.geometry.Geometry.{Geometry}
 use Rattle.storage.specs.Settings.{allowed}
 use Rattle.storage.specs.Media.{erased}
@@ -8,7 +9,7 @@ use Rattle.recovery.specs.Next.{fresh}
 use Rattle.journal.specs.declared.Journal.{Journal}
 use Rattle.journal.specs.Opening.{Opens}
 use Rattle.claim.specs.Saying.{Given, all_given}
-use Rattle.claim.specs.Events.{Event, call, commit, unrefused, done, under, State, run, verdicts, Large, Valid, start}
+use Rattle.claim.specs.Events.{Event, call, stage, commit, unrefused, refused_with, done, under, State, run, verdicts, Large, Valid, start}
 use Rattle.claim.specs.Promised.{Plays, Reads}
 
 -- x has the property P, and nothing else has
@@ -52,3 +53,9 @@ module _ (n a r : ℕ) where
 -- the theorem, proved in `proofs/Demand3.antt`: within the limits of the settings, the claim holds of every list meant
 abbrev pub Theorem : Type 0
 Theorem = (n a r : ℕ) → allowed n a r ≡ true → (es : List Event) → Valid a r (start n) es → Claim n a r es
+
+-- beside it: on the same premises no stage after the list is refused with 18, whatever it is given
+abbrev pub FindsErased : Type 0
+FindsErased = (n a r : ℕ) → allowed n a r ≡ true → (es : List Event) → Valid a r (start n) es
+    → (x : Given) (page : List ℕ)
+    → (done a r (after n a r es).machine (stage x page)).verdict ≡ refused_with NotErased → ⊥

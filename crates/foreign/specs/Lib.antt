@@ -1,0 +1,2 @@
+-- The theorem on bytes that something else has written.
+pub mod Foreign
