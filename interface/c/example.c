@@ -40,6 +40,7 @@ static const char *const reasons[] = {
     "the record does not fit in what remains of the region",
     "the step is not the one that follows",
     "kind, sequence or free bytes make no record",
+    [JARDOLENTO_NOT_ERASED] = "a byte where the record is to go is not 0xFF",
 };
 
 /* Says which call was refused and why. Answers whether it was. */

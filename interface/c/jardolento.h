@@ -63,7 +63,8 @@ enum {
     JARDOLENTO_INTERRUPTED = 12,        /* an append is under way, and another one may not begin */
     JARDOLENTO_NO_ROOM = 13,            /* the record takes `needed` bytes, and `available` remain */
     JARDOLENTO_OUT_OF_ORDER = 14,       /* the step is not the one that follows */
-    JARDOLENTO_NOT_A_RECORD = 15        /* kind, sequence or free bytes make no record */
+    JARDOLENTO_NOT_A_RECORD = 15,       /* kind, sequence or free bytes make no record */
+    JARDOLENTO_NOT_ERASED = 18          /* a byte where the record is to go is not 0xFF */
 };
 
 /* The kinds of records. */
@@ -289,8 +290,9 @@ struct jardolento_opening jardolento_open(size_t program_size, size_t read_size,
                                           size_t region_len, uint8_t *page, size_t page_len);
 
 /* The steps of an append: stage programs the body and leaves the whole record in the page; the payload barrier
- * confirms it; commit programs the seal. After stage and after commit the caller waits until what was programmed is on
- * flash. Both store into the region: where it is mapped read-only they fault, and README.md says what to do then. */
+ * confirms it; commit programs the seal. Stage looks first: where a byte that the record is to take, slot included, is
+ * not 0xFF, it refuses, so that what something else has written there stays. After stage and after commit the caller
+ * waits until what was programmed is on flash. Both store into the region: where it is mapped read-only they fault, and README.md says what to do then. */
 struct jardolento_advanced jardolento_stage(struct jardolento_journal journal, struct jardolento_record record,
                                             const uint8_t *free, size_t free_len, uint8_t *region, size_t region_len,
                                             uint8_t *page, size_t page_len);

@@ -39,6 +39,8 @@ pub enum Refusal {
     OutOfOrder,
     /// Kind, sequence or free bytes make no record.
     NotARecord,
+    /// A byte where the record is to go is not 0xFF.
+    NotErased,
 }
 
 impl Refusal {
@@ -46,7 +48,7 @@ impl Refusal {
     ///
     /// # Panics
     ///
-    /// On a number above 15, which the library never answers.
+    /// On any other number, which the library never answers.
     pub fn of(refused: ffi::Refused) -> Option<Self> {
         Some(match refused.number {
             0 => return None,
@@ -65,6 +67,7 @@ impl Refusal {
             13 => Self::NoRoom { needed: refused.needed, available: refused.available },
             14 => Self::OutOfOrder,
             15 => Self::NotARecord,
+            18 => Self::NotErased,
             other => panic!("the library answered refusal {other}, which there is not"),
         })
     }
@@ -95,6 +98,7 @@ impl Refusal {
             Self::NoRoom { .. } => 13,
             Self::OutOfOrder => 14,
             Self::NotARecord => 15,
+            Self::NotErased => 18,
         }
     }
 
@@ -119,6 +123,7 @@ impl Refusal {
             Self::NoRoom { .. } => "the record does not fit in what remains of the region",
             Self::OutOfOrder => "the step is not the one that follows",
             Self::NotARecord => "kind, sequence or free bytes make no record",
+            Self::NotErased => "a byte where the record is to go is not 0xFF",
         }
     }
 }

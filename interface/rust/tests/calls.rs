@@ -124,6 +124,22 @@ fn stage_gives_refusal_5_for_three_reasons() {
 }
 
 #[test]
+fn stage_refuses_where_a_byte_is_not_erased() {
+    let (mut region, mut page) = ([0xFF; 64], [0; 64]);
+    let mut journal = Journal::open(4, 1, &region, &mut page).unwrap();
+    // A record of 20 bytes goes before what something else has written, and the next is refused for its slot's sake.
+    region[39] = 0xFE;
+    let fired = RecordRef::TimerFired { seq: 7 };
+    journal.stage(fired, &mut region, &mut page).unwrap();
+    journal.payload_barrier(&region).unwrap();
+    journal.commit(&mut region).unwrap();
+    let (journal_before, region_before, page_before) = (journal, region, page);
+    assert_eq!(journal.stage(fired, &mut region, &mut page), Err(Refusal::NotErased));
+    assert_eq!(journal.stage(fired, &mut region, &mut page[..19]), Err(Refusal::NotErased));
+    assert_eq!((journal, region, page), (journal_before, region_before, page_before));
+}
+
+#[test]
 fn refusals_have_their_names_and_numbers() {
     let mut out = [0; 19];
     assert_eq!(encode(RecordRef::TimerFired { seq: 7 }, 4, &mut out), Err(Refusal::LengthOutOfBounds));
@@ -132,7 +148,7 @@ fn refusals_have_their_names_and_numbers() {
     assert_eq!(decode(&out[..11]), Err(Refusal::Truncated));
     let given = Given { record: ffi::Record { kind: 10, ..Default::default() }, free: b"" };
     assert_eq!(encoded_len(given, 4), Err(Refusal::NotARecord));
-    for number in 1..=15 {
+    for number in (1..=15).chain([18]) {
         let refused = ffi::Refused { number, needed: 0, available: 0 };
         assert_eq!(Refusal::of(refused).unwrap().number(), number);
     }

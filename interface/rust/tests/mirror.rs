@@ -143,7 +143,7 @@ fn upper(value: impl Debug) -> String {
 
 #[test]
 fn numbers_are_the_headers() {
-    let refusals = (1..=15).map(|number| {
+    let refusals = (1..=15).chain([18]).map(|number| {
         let refused = ffi::Refused { number, ..Default::default() };
         (upper(Refusal::of(refused).unwrap()), number)
     });
