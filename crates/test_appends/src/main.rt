@@ -1,4 +1,5 @@
-// Appends to small regions and prints each step: records that go through, steps out of order, and what does not fit.
+// Appends to small regions and prints each step: records that go through, steps out of order, what does not fit, and
+// what would go over a byte that something else has written.
 #![tactic(auto)]
 
 mod shown;
@@ -11,6 +12,9 @@ use std::io;
 use waymaker_core::id::EffectSeq;
 use waymaker_core::record::{Record, RecordKind};
 use waymaker_core::timer::ClockKind;
+
+// A place past every region.
+const NOWHERE: usize = 64;
 
 // A step of an append. A list of closures would have no names to print, and test_lents' steps take free bytes too.
 #[derive(Clone, Copy)]
@@ -64,14 +68,23 @@ fn calls() -> [Call; 11] {
     ]
 }
 
-// Opens, and appends what fits.
-fn run(rt: &impl Print, name: &str, region: &mut [u8], page: &mut [u8]) -> io::Result<()> {
+// Opens, and appends what fits; before the first step something else writes a byte, where the region has that place.
+fn run(
+    rt: &impl Print,
+    name: &str,
+    region: &mut [u8],
+    page: &mut [u8],
+    at: usize,
+) -> io::Result<()> {
     rt.println(name)?;
     let mut journal = match Journal::open(4, 1, region, page) {
         Ok(journal) => journal,
         Err(refusal) => return rt.println(Refused(refusal)),
     };
     println!(rt; "ready at {}", journal.offset)?;
+    if let Some(byte) = region.get_mut(at) {
+        *byte = 0;
+    }
     for call in calls() {
         journal = show(rt, journal, call, region, page)?;
     }
@@ -79,7 +92,42 @@ fn run(rt: &impl Print, name: &str, region: &mut [u8], page: &mut [u8]) -> io::R
 }
 
 fn main(rt: HostRuntime) -> io::Result<()> {
-    run(&rt, "40 bytes", &mut [255; 40], &mut [0; 64])?;
-    run(&rt, "39 bytes", &mut [255; 39], &mut [0; 64])?;
-    run(&rt, "a page of 19 bytes", &mut [255; 40], &mut [0; 19])
+    run(&rt, "40 bytes", &mut [255; 40], &mut [0; 64], NOWHERE)?;
+    run(&rt, "39 bytes", &mut [255; 39], &mut [0; 64], NOWHERE)?;
+    run(
+        &rt,
+        "a page of 19 bytes",
+        &mut [255; 40],
+        &mut [0; 19],
+        NOWHERE,
+    )?;
+    // Records take 20 bytes; 13 comes before 18, and 18 before the page's 5.
+    run(
+        &rt,
+        "40 bytes, of which byte 39 is written",
+        &mut [255; 40],
+        &mut [0; 64],
+        39,
+    )?;
+    run(
+        &rt,
+        "41 bytes, of which byte 40 is written",
+        &mut [255; 41],
+        &mut [0; 64],
+        40,
+    )?;
+    run(
+        &rt,
+        "39 bytes, of which byte 38 is written",
+        &mut [255; 39],
+        &mut [0; 64],
+        38,
+    )?;
+    run(
+        &rt,
+        "a page of 19 bytes, and byte 19 is written",
+        &mut [255; 40],
+        &mut [0; 19],
+        19,
+    )
 }

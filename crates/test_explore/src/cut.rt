@@ -5,6 +5,7 @@ ghost use Rattle.std.specs.Prelude.{◌<◌};
 use crate::device::Device;
 use crate::item::{BEFORE, BEHIND, Item, LOST};
 use crate::tally::{Came, Tally};
+use journal::Journal;
 use testing::parts::first;
 use waymaker_core::error::Refusal;
 
@@ -45,18 +46,24 @@ fn set_below(bits: u32, of: u32) -> u32
     (bits - 1) & of
 }
 
+// Appends a record to an erased region and, where that is wanted, loses one behind it; none where a step is not answered
+// as it should be.
+pub(crate) fn begun(a: u32, behind_lost: bool) -> Option<(Device, Journal)> {
+    let mut device = Device::new(a);
+    let opened = device.open().ok()?;
+    let mut journal = device.append(opened, BEFORE)?;
+    if behind_lost {
+        device.stage(journal, LOST);
+        journal = device.open().ok()?;
+    }
+    Some((device, journal))
+}
+
 impl Cut {
-    // Appends a record to an erased region, then, behind one that is lost where that is wanted, the item; none where a
-    // step is not answered as it should be.
+    // The item is appended behind those of `begun`.
     pub(crate) fn new(a: u32, behind_lost: bool, item: Item) -> Option<Self> {
-        let mut whole = Device::new(a);
-        let opened = whole.open().ok()?;
-        let mut journal = whole.append(opened, BEFORE)?;
-        if behind_lost {
-            whole.stage(journal, LOST);
-            journal = whole.open().ok()?;
-        }
-        let staged = whole.stage(journal, item);
+        let (mut whole, journal) = begun(a, behind_lost)?;
+        let staged = whole.stage(journal, item).journal;
         let body = whole;
         whole.seal(staged)?;
         let at = staged.offset as usize;

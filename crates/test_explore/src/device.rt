@@ -2,16 +2,16 @@
 use crate::item::Item;
 use append::step::{commit, payload_barrier};
 use journal::Journal;
-use progress::Progress;
+use progress::{Advanced, Progress};
 use recovery::next::Recovery;
 use staging::step::stage;
 use storage::geometry::Geometry;
 use waymaker_core::error::Refusal;
 
 // The length of every region and page.
-const N: usize = 96;
+pub(crate) const N: usize = 96;
 
-#[derive(Clone, Copy)]
+#[derive(Clone, Copy, PartialEq)]
 pub(crate) struct Device {
     a: u32,
     region: [u8; N],
@@ -32,9 +32,9 @@ impl Device {
         Journal::open(self.a as usize, 1, &self.region, &mut self.page)
     }
 
-    pub(crate) fn stage(&mut self, journal: Journal, item: Item) -> Journal {
+    pub(crate) fn stage(&mut self, journal: Journal, item: Item) -> Advanced {
         let (record, free) = (item.record(), item.free());
-        stage(journal, record, free, &mut self.region, &mut self.page).journal
+        stage(journal, record, free, &mut self.region, &mut self.page)
     }
 
     // Barrier and commit; none where the record is not committed, as where it was not staged.
@@ -46,7 +46,7 @@ impl Device {
 
     pub(crate) fn append(&mut self, journal: Journal, item: Item) -> Option<Journal> {
         let staged = self.stage(journal, item);
-        self.seal(staged)
+        self.seal(staged.journal)
     }
 
     // Whether recovery finds these items, in order, and nothing else.
@@ -72,6 +72,25 @@ impl Device {
         for (byte, bits) in self.region.iter_mut().skip(at).zip(mask) {
             *byte |= *bits;
         }
+    }
+
+    // Something else programs a byte.
+    pub(crate) fn write(&mut self, at: usize, written: u8) {
+        if let Some(byte) = self.region.get_mut(at) {
+            *byte &= written;
+        }
+    }
+
+    // Whether so many bytes at a place are erased.
+    pub(crate) fn is_erased(&self, at: usize, len: usize) -> bool {
+        let mut part = self.region.iter().skip(at).take(len);
+        part.all(|byte| *byte == 255)
+    }
+
+    // Whether every byte that is not erased in the other is the same here.
+    pub(crate) fn keeps(&self, other: &Device) -> bool {
+        let mut both = self.region.iter().zip(&other.region);
+        both.all(|(byte, theirs)| *theirs == 255 || byte == theirs)
     }
 
     // The bits that are 0 of the slot at a place, as a number whose bytes are a mask.

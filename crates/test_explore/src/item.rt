@@ -58,6 +58,12 @@ impl Item {
         self.payload()
     }
 
+    // The length of its record.
+    pub(crate) fn record_len(self, a: u32) -> usize {
+        let unit = (a as usize).max(1);
+        (16 + self.len.min(PAYLOAD.len())).next_multiple_of(unit) + unit
+    }
+
     // Whether this is what was found through the page.
     pub(crate) fn is(self, found: Found, page: &[u8]) -> bool {
         let sealed = found.record;

@@ -9,11 +9,13 @@ mod chance;
 mod cut;
 mod device;
 mod item;
+mod others;
 mod tally;
 
 use chance::{frames, headers};
 use cut::{Cut, cuts};
 use item::Item;
+use others::writes;
 use std::io;
 use tally::Tally;
 use waymaker_core::record::RecordKind;
@@ -84,7 +86,8 @@ fn explore(rt: &impl Print, a: u32) -> io::Result<()> {
     println!(rt;
         "a={a} body, its frame check agrees by chance: {}",
         frames(a)
-    )
+    )?;
+    println!(rt; "a={a} something else writes: {}", writes(a, &ITEMS))
 }
 
 fn main(rt: HostRuntime) -> io::Result<()> {

@@ -29,6 +29,28 @@ impl Tally {
     }
 }
 
+// The same of appends: those that stage refused, and those that were committed.
+#[derive(Clone, Copy, Default)]
+pub(crate) struct Appends(Tally);
+
+impl Appends {
+    pub(crate) fn add(&mut self, came: Came) {
+        self.0.add(came);
+    }
+}
+
+impl fmt::Display for Appends {
+    fn fmt<W: fmt::Write>(&self, f: &mut fmt::Formatter<W>) -> fmt::Result {
+        let Tally {
+            tried,
+            opened,
+            differed,
+        } = self.0;
+        write!(f, "{tried} appends, {opened} committed")?;
+        write!(f, ", {differed} differed")
+    }
+}
+
 impl fmt::Display for Tally {
     fn fmt<W: fmt::Write>(&self, f: &mut fmt::Formatter<W>) -> fmt::Result {
         write!(f, "{} tried, {} opened", self.tried, self.opened)?;
