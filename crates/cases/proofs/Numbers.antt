@@ -1,10 +1,10 @@
--- Document 01's numbers: for each answer that can be a refusal, inputs that meet it, with number, needed and available,
+-- The papers' numbers: for each answer that can be a refusal, inputs that meet it, with number, needed and available,
 -- and inputs that are not refused, with 0; one computed test that the definitions give them.
 -- Assumes nothing.
 use mathlib.Core.Path.{◌≡◌, refl}
 use mathlib.Core.Bool.{false}
 use mathlib.Core.List.{List, [], ◌∷◌, ◌++◌, map}
-use Prim.Native.Nat.{ℕ}
+use Prim.Native.Nat.{ℕ, ◌+◌, ◌-◌}
 use lib.ListN.{take, drop, replicate}
 use Rattle.waymaker_core.specs.declared.«record».Record.{Record}
 use Rattle.waymaker_core.specs.Refusals.{Numbered, decode_refusal_of, refusal_of}
@@ -55,6 +55,10 @@ units n a r = record { bytes = n; program_size = a; read_size = r }
 
 abbrev blank : ℕ → List ℕ
 blank n = replicate n 0xff
+
+-- a region of n bytes, all erased but byte i
+abbrev marked : ℕ → ℕ → List ℕ
+marked i n = blank i ++ 0xfe ∷ blank (n - (i + 1))
 
 -- the refusal of a recovery's first step, of a scan's from an offset, of an opening, of a search for sequence 7
 abbrev at_step : Geometry → List ℕ → ℕ → Numbered
@@ -136,6 +140,10 @@ table =
     ∷ gives (at_append (staged (ready (units 20 4 1) 0) fired (0 ∷ []) (blank 20) [])) 15 0 0
     ∷ gives (at_append (staged (ready (units 20 4 1) 0) clockless [] (blank 20) [])) 5 0 0
     ∷ gives (at_append (begun 19)) 13 20 19
+    ∷ gives (at_append (staged (ready (units 19 4 1) 0) fired [] (marked 0 19) [])) 13 20 19
+    ∷ gives (at_append (staged (ready (units 20 4 1) 0) fired [] (marked 0 20) [])) 18 0 0
+    ∷ gives (at_append (staged (ready (units 20 4 1) 0) fired [] (marked 19 20) (replicate 20 0))) 18 0 0
+    ∷ gives (at_append (staged (ready (units 21 4 1) 0) fired [] (marked 20 21) (replicate 20 0))) 0 0 0
     ∷ gives (at_append (staged (ready (units 20 4 1) 0) fired [] (blank 20) [])) 5 0 0
     ∷ gives (at_append firm) 0 0 0
     ∷ gives (at_append (barred (ready (units 20 4 1) 0) (blank 20))) 14 0 0

@@ -98,7 +98,7 @@ module _ (i v : ℕ) (solid : v ≡ 255 → ⊥) where
       all_keep out.journal k s' t es' (subst SafeLeft (sym p.all) (stage_keeps j s h x free page)) l
   all_keep j k s t es h (confirms j' k' s₀ t' es' out p l) = all_keep out.journal k s t es' (subst SafeLeft (sym p.all) (barrier_keeps j s h)) l
   all_keep j k s t es h (commits j' k' s₀ s' t' es' out p l) = all_keep out.journal k s' t es' (subst SafeLeft (sym p.all) (commit_keeps j s h)) l
-  all_keep j k s t es h (writes j' k' s₀ u t' es' z e l) =
+  all_keep j k s t es h (writes j' k' s₀ u t' es' e l) =
       all_keep j k u t es' (record { is = e ∙ h.is; beyond = h.beyond; behind = h.behind }) l
 
 pub foreign_bytes_stay : Theorem

@@ -23,7 +23,7 @@ pub data Event : Type 0 where
   foreign : List ℕ → Event
 
 -- a list that leads from j and s to k and t: each step is given the journal last given and has any results that keep its
--- promise; something else writes where the journal is ready, whatever it likes but for the byte at place i
+-- promise; something else writes at any moment, whatever it likes but for the byte at place i
 pub data Leads (i : ℕ) : Journal → List ℕ → List Event → Journal → List ℕ → Type 0 where
   rests : (j : Journal) (s : List ℕ) → Leads i j s [] j s
   stages : (j k : Journal) (s s' t : List ℕ) (es : List Event) (x : Record) (free page page' : List ℕ) (out : Advanced)
@@ -39,7 +39,6 @@ pub data Leads (i : ℕ) : Journal → List ℕ → List Event → Journal → L
       → Leads i out.journal s' es k t
       → Leads i j s (commit out.progress ∷ es) k t
   writes : (j k : Journal) (s u t : List ℕ) (es : List Event)
-      → j.phase ≡ 0
       → byte_at i u ≡ byte_at i s
       → Leads i j u es k t
       → Leads i j s (foreign u ∷ es) k t

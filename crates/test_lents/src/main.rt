@@ -16,6 +16,9 @@ use waymaker_core::id::EffectSeq;
 use waymaker_core::record::{Record, RecordKind};
 use waymaker_core::timer::ClockKind;
 
+// A place past the region.
+const NOWHERE: usize = 64;
+
 // A step of an append. Each is made in both forms, so that a list of closures would stand here once for each form. One
 // enum with test_appends in crate testing would share three names, and neither match: it prints, and has no free bytes.
 #[derive(Clone, Copy)]
@@ -34,16 +37,20 @@ struct Device {
 }
 
 impl Device {
-    // Erased, with a ready journal of these settings.
-    fn new(bytes: u32, program_size: u32) -> Self {
+    // Erased but for a byte, where the region has that place, with a ready journal of these settings.
+    fn new(bytes: u32, program_size: u32, at: usize) -> Self {
         let geometry = Geometry {
             bytes,
             program_size,
             read_size: 1,
         };
+        let mut region = [255; 64];
+        if let Some(byte) = region.get_mut(at) {
+            *byte = 0;
+        }
         Device {
             journal: Journal::idle(geometry, 0, WriteAmplification::NONE),
-            region: [255; 64],
+            region,
             page: [0; 24],
         }
     }
@@ -116,8 +123,8 @@ impl fmt::Display for Count {
 }
 
 // Makes the steps in both forms, the first record of the second form having this sequence.
-fn run(bytes: u32, program_size: u32, seq: u32) -> Count {
-    let mut value = Device::new(bytes, program_size);
+fn run(bytes: u32, program_size: u32, seq: u32, at: usize) -> Count {
+    let mut value = Device::new(bytes, program_size, at);
     let mut lent = value;
     let mut count = Count::default();
     for (call, other) in calls(7).into_iter().zip(calls(seq)) {
@@ -131,9 +138,10 @@ fn run(bytes: u32, program_size: u32, seq: u32) -> Count {
 }
 
 fn main(rt: HostRuntime) -> io::Result<()> {
-    println!(rt; "units of 4: {}", run(64, 4, 7))?;
-    println!(rt; "units of 1: {}", run(64, 1, 7))?;
-    println!(rt; "units of 3: {}", run(64, 3, 7))?;
-    println!(rt; "another device: {}", run(65, 4, 7))?;
-    println!(rt; "another record: {}", run(64, 4, 6))
+    println!(rt; "units of 4: {}", run(64, 4, 7, NOWHERE))?;
+    println!(rt; "units of 1: {}", run(64, 1, 7, NOWHERE))?;
+    println!(rt; "units of 3: {}", run(64, 3, 7, NOWHERE))?;
+    println!(rt; "byte 30 written: {}", run(64, 4, 7, 30))?;
+    println!(rt; "another device: {}", run(65, 4, 7, NOWHERE))?;
+    println!(rt; "another record: {}", run(64, 4, 6, NOWHERE))
 }
