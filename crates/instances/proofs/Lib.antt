@@ -1,2 +1,3 @@
 -- The instances of demand 3, computed.
 pub mod Tried
+pub mod Foreign

@@ -1,2 +1,3 @@
--- Instances of demand 3.
+-- Instances of demand 3, and of the theorem beside it.
 pub mod Table
+pub mod Foreign
