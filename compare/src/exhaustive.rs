@@ -17,6 +17,7 @@ pub fn each(take: &mut dyn FnMut(Case)) {
     records(take);
     pages(take);
     appends(take);
+    strangers(take);
 }
 
 fn reads(align: u16) -> impl Iterator<Item = u16> {
@@ -226,6 +227,33 @@ fn appends(take: &mut dyn FnMut(Case)) {
                     let calls = vec![Call::Open, stage.clone(), Call::Barrier, Call::Commit, stage, Call::Open];
                     let units = Units { program: align, read };
                     take(generate::expressible(Case::Append { units, page_len, region: vec![0xFF; room], calls }));
+                }
+            }
+        }
+    }
+}
+
+/// A stranger's byte at each edge of the next record's body and slot, before it and behind it; in regions short of room
+/// by a read unit, with pages short by a byte, and with enough of both. They come last, so that the fixed list, which
+/// takes one case in so many, stays as it is.
+fn strangers(take: &mut dyn FnMut(Case)) {
+    for align in ALIGNS {
+        let found = bytes::sealed(&bytes::frame(1, 6, 1, &[]), align);
+        let stage = Call::Stage(Record { kind: 4, seq: 2, ..Record::default() }, payload(usize::from(align) + 3));
+        let len = bytes::record_len(usize::from(align) + 3, align);
+        let (start, slot, end) = (found.len(), found.len() + len - usize::from(align), found.len() + len);
+        for read in reads(align) {
+            for (room, page_len) in [(len - usize::from(read), len), (len, len - 1), (2 * len, len)] {
+                let mut region = found.clone();
+                region.resize(start + room, 0xFF);
+                for at in [start - 1, start, start + 1, slot - 1, slot, end - 1, end, end + 1] {
+                    for byte in [0, 0xFE] {
+                        let foreign = Call::Foreign { at, bytes: vec![byte] };
+                        let append = [stage.clone(), Call::Barrier, Call::Commit];
+                        let calls = [&[Call::Open, foreign], &append[..], &[stage.clone(), Call::Open]].concat();
+                        let units = Units { program: align, read };
+                        take(generate::expressible(Case::Append { units, page_len, region: region.clone(), calls }));
+                    }
                 }
             }
         }

@@ -5,7 +5,9 @@
 
 use crate::bytes;
 use crate::model::*;
-use crate::run::{self, Plan};
+use crate::run::{self, Plan, agree};
+use crate::strangers::{NOT_ERASED, places, programmed, refusing};
+use std::ops::Range;
 
 #[derive(Clone, Copy, PartialEq, Eq)]
 pub enum Whose {
@@ -27,7 +29,7 @@ const fn rust(name: &'static str, wrong: fn(&dyn Side, &Case) -> Answer) -> Faul
     Fault { whose: Whose::Rust, name, wrong }
 }
 
-pub const FAULTS: [Fault; 27] = [
+pub const FAULTS: [Fault; 33] = [
     ours("the frame check has a bit flipped", frame_check_flipped),
     rust("the header check lacks its complement", no_complement),
     rust("a payload of 65,535 bytes is too long", longest_refused),
@@ -53,6 +55,12 @@ pub const FAULTS: [Fault; 27] = [
     rust("stage gives 8 for a clock kind", clock_kind_8),
     ours("stage programs the slot too", stage_seals),
     rust("the available length is one short", available_off),
+    ours("stage does not look at the slot", slot_unseen),
+    ours("stage does not look at the body", body_unseen),
+    ours("stage gives 18 before 13", room_later),
+    ours("stage gives 5 for a short page before 18", page_sooner),
+    ours("stage looks at the byte behind the record too", looks_behind),
+    ours("stage programs although it gives 18", programs_over),
     ours("find takes kinds without a sequence too", find_all_kinds),
     rust("counts wrap around at their limit", counts_wrap),
 ];
@@ -62,12 +70,12 @@ pub fn run(our_side: &dyn Side, their_side: &dyn Side, plan: Plan) -> Vec<Option
     let mut caught: Vec<Option<String>> = FAULTS.iter().map(|_| None).collect();
     run::each(plan, 0, 1, &mut |name, case| {
         let truth = their_side.answer(&case);
-        if truth == Answer::NotAccepted || our_side.answer(&case) != truth {
+        if truth == Answer::NotAccepted || !agree(&case, &our_side.answer(&case), &truth) {
             return;
         }
         for (fault, caught) in FAULTS.iter().zip(&mut caught) {
             let side = if fault.whose == Whose::Ours { our_side } else { their_side };
-            if caught.is_none() && (fault.wrong)(side, &case) != truth {
+            if caught.is_none() && !agree(&case, &(fault.wrong)(side, &case), &truth) {
                 *caught = Some(format!("{}, {}", KINDS[case.kind()], name()));
             }
         }
@@ -330,9 +338,7 @@ fn stage_seals(side: &dyn Side, case: &Case) -> Answer {
             // The whole record stands in the page.
             let len = bytes::payload_len(&after.page).map_or(0, |payload| bytes::record_len(payload, units.program));
             let at = journal.offset as usize;
-            for (old, new) in after.region[at..].iter_mut().zip(&after.page[..len]) {
-                *old &= *new;
-            }
+            program(&mut after.region, at, &after.page[..len]);
         }
     })
 }
@@ -341,6 +347,85 @@ fn available_off(side: &dyn Side, case: &Case) -> Answer {
     bend_calls(side, case, |_, after| {
         if let Some(refused @ Refused { number: 13, .. }) = &mut after.refused {
             refused.available = refused.available.saturating_sub(1);
+        }
+    })
+}
+
+/// Asks without what strangers wrote to some of the places that the first stage refused with 18 was to take; `unseen`
+/// gets the record's places and its slot. Then that is laid over what was left: ANDs may be made in any order.
+fn without_seeing(side: &dyn Side, case: &Case, unseen: fn(Range<usize>, usize) -> Range<usize>) -> Answer {
+    let answer = side.answer(case);
+    let (Case::Append { units, calls, .. }, Answer::Append(after)) = (case, &answer) else { return answer };
+    let Some(at) = after.iter().position(|after| after.refused == Some(NOT_ERASED)) else { return answer };
+    let Some(record) = places(units.program, &calls[at], &after[at - 1]) else { return answer };
+    let slot = record.end - usize::from(units.program);
+    let unseen = unseen(record, slot);
+    let mut asked = case.clone();
+    let Case::Append { calls: asked_calls, .. } = &mut asked else { return answer };
+    for call in asked_calls {
+        if let Call::Foreign { at, bytes } = call {
+            let hidden = (*at..).zip(bytes).filter(|(place, _)| unseen.contains(place));
+            hidden.for_each(|(_, byte)| *byte = 0xFF);
+        }
+    }
+    let mut answer = side.answer(&asked);
+    if let Answer::Append(after) = &mut answer {
+        for (upto, after) in after.iter_mut().enumerate() {
+            for call in &calls[..=upto] {
+                if let Call::Foreign { at, bytes } = call {
+                    program(&mut after.region, *at, bytes);
+                }
+            }
+        }
+    }
+    answer
+}
+
+fn slot_unseen(side: &dyn Side, case: &Case) -> Answer {
+    without_seeing(side, case, |record, slot| slot..record.end)
+}
+
+fn body_unseen(side: &dyn Side, case: &Case) -> Answer {
+    without_seeing(side, case, |record, slot| record.start..slot)
+}
+
+fn room_later(side: &dyn Side, case: &Case) -> Answer {
+    bend_calls(side, case, |call, after| {
+        let (Call::Stage(..), Some(journal)) = (call, after.journal) else { return };
+        let at_13 = after.refused.is_some_and(|refused| refused.number == 13);
+        if at_13 && programmed(after.region.get(journal.offset as usize..)) {
+            after.refused = Some(NOT_ERASED);
+        }
+    })
+}
+
+fn page_sooner(side: &dyn Side, case: &Case) -> Answer {
+    let Case::Append { units, .. } = case else { return side.answer(case) };
+    bend_calls(side, case, |call, after| {
+        // A refused stage leaves the journal, so the record's places are those from before.
+        let needed = places(units.program, call, after).map_or(0, |record| record.len());
+        if after.refused == Some(NOT_ERASED) && after.page.len() < needed {
+            after.refused = Some(Refused::plain(5));
+        }
+    })
+}
+
+fn looks_behind(side: &dyn Side, case: &Case) -> Answer {
+    refusing(side, case, &|align, call, before, after| {
+        let Some(record) = places(align, call, before) else { return false };
+        after.refused.is_none() && programmed(before.region.get(record.end..record.end + 1))
+    })
+}
+
+fn programs_over(side: &dyn Side, case: &Case) -> Answer {
+    let Case::Append { units, .. } = case else { return side.answer(case) };
+    let align = units.program;
+    bend_calls(side, case, |call, after| {
+        let (Call::Stage(record, free), Some(NOT_ERASED)) = (call, after.refused) else { return };
+        let Some(places) = places(align, call, after) else { return };
+        let encode = Case::Encode { align, record: *record, free: free.clone(), out_len: places.len() };
+        if let Answer::Encode { body_len: Ok(body), out, .. } = side.answer(&encode) {
+            program(&mut after.region, places.start, &out[..body]);
         }
     })
 }

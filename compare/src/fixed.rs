@@ -213,7 +213,7 @@ fn put_call(out: &mut Vec<u8>, call: &Call) -> Option<()> {
             put_record(out, record);
             put_bytes(out, free)?;
         }
-        Call::StageElsewhere(..) => return None,
+        Call::StageElsewhere(..) | Call::Foreign { .. } => return None,
         Call::Barrier => out.push(2),
         Call::Commit => out.push(3),
     }

@@ -3,6 +3,7 @@
 use crate::bytes;
 use crate::model::*;
 use crate::rng::Rng;
+use crate::strangers::Looking;
 use crate::theirs::Theirs;
 
 /// One case, from one seed and its own number.
@@ -349,10 +350,10 @@ fn appendable(rng: &mut Rng, units: Units) -> Vec<u8> {
 }
 
 /// The same list without the calls that the Rust has no form for where they stand: a barrier or a commit that is not
-/// the next step. A refused opening is the last call.
+/// the next step, as after a stage that is refused. A refused opening is the last call.
 pub fn expressible(mut case: Case) -> Case {
     loop {
-        let Answer::Append(after) = Theirs.answer(&case) else { return case };
+        let Answer::Append(after) = Looking(&Theirs).answer(&case) else { return case };
         let Case::Append { calls, .. } = &mut case else { return case };
         let refused = after
             .iter()

@@ -12,4 +12,5 @@ pub mod ours;
 pub mod rng;
 pub mod run;
 pub mod shapes;
+pub mod strangers;
 pub mod theirs;

@@ -126,6 +126,19 @@ pub enum Call {
     StageElsewhere(Record, Vec<u8>),
     Barrier,
     Commit,
+    /// Something else programs the region by AND, as flash does, from a place on; what lies past the end is left out.
+    /// It stands where a journal is ready, and leaves it and the page as they are.
+    Foreign {
+        at: usize,
+        bytes: Vec<u8>,
+    },
+}
+
+/// What `Call::Foreign` does.
+pub fn program(region: &mut [u8], at: usize, bytes: &[u8]) {
+    for (old, new) in region.iter_mut().skip(at).zip(bytes) {
+        *old &= *new;
+    }
 }
 
 /// What one call of a list answered, and all that it could have changed.

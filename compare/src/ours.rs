@@ -209,6 +209,10 @@ fn call(
             other.resize(region.len() + usize::from(units.read), 0xFF);
             journal.stage(given(record, free), &mut other, page).map(|()| None).map_err(refused)
         }
+        Call::Foreign { at, bytes } => {
+            program(region, *at, bytes);
+            Ok(None)
+        }
         Call::Barrier => journal.payload_barrier(region).map(|()| None).map_err(refused),
         _ => journal.commit(region).map(|counts| Some(written(counts))).map_err(refused),
     })

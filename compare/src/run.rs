@@ -1,7 +1,8 @@
 //! Asks both sides the same and tallies where they part.
 
+use crate::exhaustive;
 use crate::model::*;
-use crate::{exhaustive, generate};
+use crate::strangers::{self, kept, not_erased};
 use std::panic::resume_unwind;
 use std::thread;
 
@@ -22,6 +23,8 @@ pub struct Tally {
     pub differences: [u64; KINDS.len()],
     /// Cases whose units the Rust's constructors do not accept.
     pub outside: u64,
+    /// Calls that are refused with 18, without which the Rust is asked.
+    pub left_out: u64,
     shown: [Vec<(usize, String)>; KINDS.len()],
 }
 
@@ -33,7 +36,8 @@ impl Tally {
         }
         let kind = case.kind();
         self.cases[kind] += 1;
-        if ours == theirs {
+        self.left_out += not_erased(&ours);
+        if agree(case, &ours, &theirs) {
             return;
         }
         self.differences[kind] += 1;
@@ -42,8 +46,9 @@ impl Tally {
         if shown.len() == SHOWN && shown.iter().all(|(len, _)| *len <= input.len()) {
             return;
         }
-        let text =
-            format!("{}, all numbers in hex\n  input  {input}\n  ours   {ours:02x?}\n  Rust   {theirs:02x?}", name());
+        let changed = if ours == theirs { ", a stranger's byte changed" } else { "" };
+        let answers = format!("  ours   {ours:02x?}\n  Rust   {theirs:02x?}");
+        let text = format!("{}{changed}, all numbers in hex\n  input  {input}\n{answers}", name());
         shown.push((input.len(), text));
         self.keep_shortest();
     }
@@ -61,6 +66,7 @@ impl Tally {
             self.differences[kind] += other.differences[kind];
         }
         self.outside += other.outside;
+        self.left_out += other.left_out;
         for (mine, more) in self.shown.iter_mut().zip(other.shown) {
             mine.extend(more);
         }
@@ -82,10 +88,16 @@ impl Tally {
         if self.outside > 0 {
             println!("outside the Rust's domain, not compared: {}", self.outside);
         }
+        println!("refused with 18, left out of what the Rust is asked: {}", self.left_out);
         for (_, text) in self.shown.iter().flatten() {
             println!("\ndifference: {text}");
         }
     }
+}
+
+/// Whether our answer is the Rust's, and what strangers wrote stays in it.
+pub fn agree(case: &Case, ours: &Answer, theirs: &Answer) -> bool {
+    ours == theirs && kept(case, ours)
 }
 
 /// Hands out every case of a plan that falls to one of several workers, with its name. What is handed out is a clone,
@@ -99,7 +111,7 @@ pub fn each(plan: Plan, worker: u64, workers: u64, take: &mut dyn FnMut(&dyn Fn(
         }
     });
     for number in (worker..plan.random).step_by(workers as usize) {
-        take(&|| format!("case {number} of seed {}", plan.seed), generate::case(plan.seed, number).clone());
+        take(&|| format!("case {number} of seed {}", plan.seed), strangers::case(plan.seed, number).clone());
     }
 }
 

@@ -327,6 +327,10 @@ fn run(units: Units, memory: &mut Memory<'_>, page: &mut [u8], calls: &[Call]) -
         let Some(journal) = &mut ran.journal else { break };
         let step = match call {
             Call::StageElsewhere(record, free) => stage_elsewhere(journal, memory, record, free, page),
+            Call::Foreign { at, bytes } => {
+                program(memory.bytes_mut(), *at, bytes);
+                Some((Ok(None), 1))
+            }
             _ => stage_and_on(journal, memory, &calls[ran.made..], page),
         };
         let Some((answer, made)) = step else { break };

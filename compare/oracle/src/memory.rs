@@ -23,6 +23,11 @@ impl<'a> Memory<'a> {
         self.bytes
     }
 
+    /// For what is done to the flash beside the calls.
+    pub fn bytes_mut(&mut self) -> &mut [u8] {
+        self.bytes
+    }
+
     pub fn reads(&self) -> u32 {
         self.reads
     }
