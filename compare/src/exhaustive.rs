@@ -17,7 +17,7 @@ pub fn each(take: &mut dyn FnMut(Case)) {
     records(take);
     pages(take);
     appends(take);
-    strangers(take);
+    foreign_writes(take);
 }
 
 fn reads(align: u16) -> impl Iterator<Item = u16> {
@@ -236,7 +236,7 @@ fn appends(take: &mut dyn FnMut(Case)) {
 /// A stranger's byte at each edge of the next record's body and slot, before it and behind it; in regions short of room
 /// by a read unit, with pages short by a byte, and with enough of both. They come last, so that the fixed list, which
 /// takes one case in so many, stays as it is.
-fn strangers(take: &mut dyn FnMut(Case)) {
+fn foreign_writes(take: &mut dyn FnMut(Case)) {
     for align in ALIGNS {
         let found = bytes::sealed(&bytes::frame(1, 6, 1, &[]), align);
         let stage = Call::Stage(Record { kind: 4, seq: 2, ..Record::default() }, payload(usize::from(align) + 3));

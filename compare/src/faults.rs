@@ -4,9 +4,9 @@
 //! mistake would answer. It is caught where the true sides agree and the copy does not.
 
 use crate::bytes;
+use crate::foreign::{NOT_ERASED, places, programmed, refusing};
 use crate::model::*;
 use crate::run::{self, Plan, agree};
-use crate::strangers::{NOT_ERASED, places, programmed, refusing};
 use std::ops::Range;
 
 #[derive(Clone, Copy, PartialEq, Eq)]

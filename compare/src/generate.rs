@@ -1,9 +1,9 @@
 //! Random cases: good ones of every kind and length, and damaged copies of good ones.
 
 use crate::bytes;
+use crate::foreign::Looking;
 use crate::model::*;
 use crate::rng::Rng;
-use crate::strangers::Looking;
 use crate::theirs::Theirs;
 
 /// One case, from one seed and its own number.

@@ -5,6 +5,7 @@ pub mod courses;
 pub mod exhaustive;
 pub mod faults;
 pub mod fixed;
+pub mod foreign;
 pub mod generate;
 pub mod model;
 #[cfg(feature = "ours")]
@@ -12,5 +13,4 @@ pub mod ours;
 pub mod rng;
 pub mod run;
 pub mod shapes;
-pub mod strangers;
 pub mod theirs;

@@ -72,9 +72,9 @@ fn write_fixed(file: &str) -> ExitCode {
 mod both {
     use super::*;
     use compare::faults::{self, FAULTS, Whose};
+    use compare::foreign::Looking;
     use compare::ours::Ours;
     use compare::run;
-    use compare::strangers::Looking;
     use compare::theirs::Theirs;
 
     const NOT_COMPARED: &str =

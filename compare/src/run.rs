@@ -1,8 +1,8 @@
 //! Asks both sides the same and tallies where they part.
 
 use crate::exhaustive;
+use crate::foreign::{self, kept, not_erased};
 use crate::model::*;
-use crate::strangers::{self, kept, not_erased};
 use std::panic::resume_unwind;
 use std::thread;
 
@@ -111,7 +111,7 @@ pub fn each(plan: Plan, worker: u64, workers: u64, take: &mut dyn FnMut(&dyn Fn(
         }
     });
     for number in (worker..plan.random).step_by(workers as usize) {
-        take(&|| format!("case {number} of seed {}", plan.seed), strangers::case(plan.seed, number).clone());
+        take(&|| format!("case {number} of seed {}", plan.seed), foreign::case(plan.seed, number).clone());
     }
 }
 

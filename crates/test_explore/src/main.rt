@@ -2,20 +2,21 @@
 // For each family it prints how many cuts were tried, after how many the region opened, and how many differed.
 // A cut is a set of bits left old: there are 2 to the number of the seal's 0 bits for a slot, and n (n + 1) / 2 pairs
 // of the n bits of a body. A region opens where the body is whole and its kind may be skipped, where it is erased, and
-// where the seal is whole. make_stdout.py beside this counts both with no cut made.
+// where the seal is whole. make_stdout.py beside this counts both with no cut made. In the last family nothing is cut:
+// something else writes, and each byte of that is compared.
 #![tactic(auto)]
 
 mod chance;
 mod cut;
 mod device;
+mod foreign;
 mod item;
-mod others;
 mod tally;
 
 use chance::{frames, headers};
 use cut::{Cut, cuts};
+use foreign::writes;
 use item::Item;
-use others::writes;
 use std::io;
 use tally::Tally;
 use waymaker_core::record::RecordKind;
