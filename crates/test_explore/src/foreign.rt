@@ -52,7 +52,7 @@ impl Shared {
         }
     }
 
-    // Of each byte from the append offset on, a bit is written, then the item is appended, and another behind it.
+    // Each byte from the append offset on is written, and then another item is appended.
     fn second(self, tally: &mut Appends, written: u8) {
         for at in self.journal.offset as usize..N {
             let mut shared = self;
@@ -61,6 +61,7 @@ impl Shared {
         }
     }
 
+    // The same before the item itself is appended; then the second write follows, whether it was or not.
     fn first(self, tally: &mut Appends, written: u8, item: Item) {
         for at in self.journal.offset as usize..N {
             let mut shared = self;
