@@ -1,4 +1,4 @@
-/* Tries the calls at their limits: settings, seals, pages, refusal 5, and loops over what is refused.
+/* Tries the calls at their limits: settings, seals, pages, refusals 5 and 18, and loops over what is refused.
  *
  *     cc -std=c99 limits.c -L ../../crates/jardolento/out -l jardolento -o limits
  *     ./limits
@@ -117,7 +117,14 @@ static void pages(void)
     CHECK(step.refused.number == JARDOLENTO_LENGTH_OUT_OF_BOUNDS);
     CHECK(jardolento_encoded_len(record, free, 0, 4).refused.number == JARDOLENTO_MALFORMED);
 
+    /* Something else has written the slot's last byte: that comes before the short page, and nothing is programmed. */
     record.kind = JARDOLENTO_RUN_COMPLETED;
+    region[sizeof region - 1] = 0xFE;
+    step = jardolento_stage(journal, record, free, 65535, region, sizeof region, page, JARDOLENTO_LONGEST_RECORD - 1);
+    CHECK(step.refused.number == JARDOLENTO_NOT_ERASED && step.journal.phase == JARDOLENTO_READY);
+    CHECK(region[0] == 0xFF && region[sizeof region - 1] == 0xFE);
+    region[sizeof region - 1] = 0xFF;
+
     step = jardolento_stage(journal, record, free, 65535, region, sizeof region, page, JARDOLENTO_LONGEST_RECORD);
     CHECK(step.refused.number == 0 && step.journal.phase == JARDOLENTO_STAGED);
     step = jardolento_payload_barrier(step.journal, region, sizeof region);
