@@ -9,7 +9,8 @@ use Rattle.recovery.specs.Next.{fresh}
 use Rattle.journal.specs.declared.Journal.{Journal}
 use Rattle.journal.specs.Opening.{Opens}
 use Rattle.claim.specs.Saying.{Given, all_given}
-use Rattle.claim.specs.Events.{Event, call, stage, commit, unrefused, refused_with, done, under, State, run, verdicts, Large, Valid, start}
+use Rattle.claim.specs.Events.{Event, call, stage, commit, unrefused, refused_with, done, under, State, run}
+use Rattle.claim.specs.Events.{verdicts, Large, Valid, start}
 use Rattle.claim.specs.Promised.{Plays, Reads}
 
 -- x has the property P, and nothing else has

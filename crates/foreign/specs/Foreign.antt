@@ -22,8 +22,8 @@ pub data Event : Type 0 where
   commit : StepAnswer → Event
   foreign : List ℕ → Event
 
--- a list that leads from j and s to k and t: each step is given the journal last given and has any results that keep its
--- promise; something else writes at any moment, whatever it likes but for the byte at place i
+-- a list that leads from j and s to k and t: each step is given the journal last given, and has any results that keep
+-- its promise; something else writes at any moment, whatever it likes but for the byte at place i
 pub data Leads (i : ℕ) : Journal → List ℕ → List Event → Journal → List ℕ → Type 0 where
   rests : (j : Journal) (s : List ℕ) → Leads i j s [] j s
   stages : (j k : Journal) (s s' t : List ℕ) (es : List Event) (x : Record) (free page page' : List ℕ) (out : Advanced)

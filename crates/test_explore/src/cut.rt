@@ -46,8 +46,8 @@ fn set_below(bits: u32, of: u32) -> u32
     (bits - 1) & of
 }
 
-// Appends a record to an erased region and, where that is wanted, loses one behind it; none where a step is not answered
-// as it should be.
+// Appends a record to an erased region and, where that is wanted, loses one behind it; none where a step is not
+// answered as it should be.
 pub(crate) fn begun(a: u32, behind_lost: bool) -> Option<(Device, Journal)> {
     let mut device = Device::new(a);
     let opened = device.open().ok()?;
