@@ -13,7 +13,8 @@ use Rattle.append.specs.Append.{committed}
 use Rattle.claim.specs.Saying.{Given}
 use Rattle.claim.specs.Events.{Call, opening, stage, barrier, commit, Event, call, cut, cut_in, holds, Machine, machine, Verdict, unrefused, refused_with, stepped, done, Way, nothing, under, Book, appended, told, told_cut, State, sealed_in, after_event, run, Valid, start}
 use Rattle.claim.specs.Claim.{Kept, after}
-use Rattle.claim.proofs.Invariant.{on_device_lem, idle, at, Inv, lost_inv, ready_inv, staged_inv, firm_inv, inv_after}
+use Rattle.progress.proofs.Noted.{on_device_case}
+use Rattle.claim.proofs.Invariant.{idle, at, Inv, lost_inv, ready_inv, staged_inv, firm_inv, inv_after}
 
 -- the records cs are the records bs and more behind them
 record Grows (bs cs : List Given) : Type 0 where
@@ -86,7 +87,7 @@ module _ (n a r : ℕ) (ok : allowed n a r ≡ true) where
       let j : Journal = idle n a r ok o w in
       let m : Machine = machine u u (holds j) in
       let t : State = at n a r ok m true nothing bs in
-      on_device_lem (λ l. (stepped m l).verdict ≡ unrefused → Kept t (run a r (after_event a r t (call commit)) gs).book.records) j u [] _ (λ e. unrefused_refused) unrefused_refused
+      on_device_case (λ l. (stepped m l).verdict ≡ unrefused → Kept t (run a r (after_event a r t (call commit)) gs).book.records) j u [] _ (λ e _. unrefused_refused) (λ _ _. unrefused_refused)
   goes_through s gs (staged_inv base u o y w bs z x v) = kept a r s gs y refl
   goes_through s gs (firm_inv base u o y w bs x v) = kept a r s gs y refl
 

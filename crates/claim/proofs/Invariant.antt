@@ -7,12 +7,11 @@ use mathlib.Core.List.{List, [], ◌∷◌, ◌++◌}
 use Prim.Native.Nat.{ℕ, zero, suc, ◌+◌, ◌-◌, ◌≤◌, ◌<◌}
 use native.Mathlib.Omega.{arith}
 use lib.Bits.{and_le_l}
-use lib.Dec.{eqb, leb}
+use lib.Dec.{leb}
 use lib.ListN.{length, take, drop, replicate, length-append, length-replicate}
 use Rattle.waymaker_core.specs.declared.error.Refusal.{Refusal}
 use Rattle.waymaker_core.proofs.Choice.{cond_case}
 use Rattle.storage.specs.declared.geometry.Geometry.{Geometry}
-use Rattle.waymaker_core.specs.declared.error.Refusal.TheVariants.{Settings, WrongDevice}
 use Rattle.storage.specs.Settings.{program_unit, read_unit, allowed, settings}
 use Rattle.storage.specs.Media.{ands, programmed}
 use Rattle.storage.proofs.Units.{allowed_is, limits}
@@ -33,7 +32,8 @@ use Rattle.roundtrip.proofs.Frames.{payload_size}
 use Rattle.counts.specs.declared.WriteAmplification.{WriteAmplification}
 use Rattle.journal.specs.declared.Journal.{Journal}
 use Rattle.journal.specs.Opening.{Opening, opening_of, opened}
-use Rattle.progress.specs.Phases.{unit_of, StepLeft, keeps as refusing, on_device, is_next, confirmed, under_way}
+use Rattle.progress.specs.Phases.{StepLeft, is_next, confirmed, under_way}
+use Rattle.progress.proofs.Noted.{on_device_case}
 use Rattle.staging.specs.Stage.{check_for, body_for, begins, staged}
 use Rattle.staging.proofs.Outcomes.{stage_case}
 use Rattle.append.specs.Append.{barred, after_commit, committed}
@@ -47,13 +47,6 @@ use Rattle.claim.proofs.Tears.{replicate_bytes, cut_same, cut_bytes}
 use Rattle.claim.proofs.Looks.{skipped_local}
 use Rattle.claim.proofs.Passing.{Shape, Ready, passes_none, ready_shape, finds, opened_ready}
 use Rattle.claim.proofs.Appends.{Busy, busy_shape, busy_unsealed, torn_body, torn_unsealed, sealed, torn_whole, torn_part}
-
--- what holds of a refusal, and of the step that follows refusals 1 and 2, holds of both
-pub on_device_lem : (P : StepLeft → Type 0) (j : Journal) (region page : List ℕ) (next : StepLeft) → ((e : Refusal) → P (refusing e j region page)) → P next → P (on_device j region page next)
-unfolding on_device
-on_device_lem P j region page next f h =
-    cond_case P (not (allowed j.geometry.bytes (unit_of j) j.geometry.read_size)) (λ _. f Settings)
-    (λ _. cond_case P (not (eqb (length region) j.geometry.bytes)) (λ _. f WrongDevice) (λ _. h))
 
 -- programming leaves bytes
 ands_bytes : (t s : List ℕ) → AllBytes t → AllBytes (ands t s)
@@ -199,7 +192,7 @@ module _ (n a r : ℕ) (ok : allowed n a r ≡ true) where
     ready_stage : (y : Given) (page : List ℕ) → Typed y.«record» y.free → Keeps s₀ (stage y page) (done a r m₀ (stage y page))
     unfolding begins under_way
     ready_stage y page t =
-        stage_case (λ l. Keeps s₀ (stage y page) (stepped m₀ l)) (idle o w) y.«record» y.free s page (λ e. no_stage s₀ i₀ e y page)
+        stage_case (λ l. Keeps s₀ (stage y page) (stepped m₀ l)) (idle o w) y.«record» y.free s page (λ e _. no_stage s₀ i₀ e y page)
         (λ p g.
         let body : List ℕ = body_for a y.«record» y.free in
         let s' : List ℕ = programmed s o body in
@@ -214,11 +207,11 @@ module _ (n a r : ℕ) (ok : allowed n a r ≡ true) where
 
     ready_barrier : Keeps s₀ barrier (done a r m₀ barrier)
     unfolding barred is_next
-    ready_barrier = on_device_lem (λ l. Keeps s₀ barrier (stepped m₀ l)) (idle o w) s [] _ (λ e. no_barrier s₀ i₀ _) (no_barrier s₀ i₀ _)
+    ready_barrier = on_device_case (λ l. Keeps s₀ barrier (stepped m₀ l)) (idle o w) s [] _ (λ e _. no_barrier s₀ i₀ _) (λ _ _. no_barrier s₀ i₀ _)
 
     ready_commit : Keeps s₀ commit (done a r m₀ commit)
     unfolding committed is_next
-    ready_commit = on_device_lem (λ l. Keeps s₀ commit (stepped m₀ l)) (idle o w) s [] _ (λ e. no_commit s₀ i₀ _) (no_commit s₀ i₀ _)
+    ready_commit = on_device_case (λ l. Keeps s₀ commit (stepped m₀ l)) (idle o w) s [] _ (λ e _. no_commit s₀ i₀ _) (λ _ _. no_commit s₀ i₀ _)
 
   -- a record is staged at o: the barrier confirms it, the other steps are refused
   module _ (base s : List ℕ) (o : ℕ) (y : Given) (w : WriteAmplification) (bs : List Given) (z : Sound base) (x : Sound s) (v : Busy a base s o y bs) where
@@ -236,19 +229,19 @@ module _ (n a r : ℕ) (ok : allowed n a r ≡ true) where
 
     staged_stage : (q : Given) (page : List ℕ) → Keeps s₁ (stage q page) (done a r m₁ (stage q page))
     unfolding staged
-    staged_stage q page = on_device_lem (λ l. Keeps s₁ (stage q page) (stepped m₁ l)) j₁ s page _ (λ e. no_stage s₁ i₁ _ q page) (no_stage s₁ i₁ _ q page)
+    staged_stage q page = on_device_case (λ l. Keeps s₁ (stage q page) (stepped m₁ l)) j₁ s page _ (λ e _. no_stage s₁ i₁ _ q page) (λ _ _. no_stage s₁ i₁ _ q page)
 
     staged_barrier : Keeps s₁ barrier (done a r m₁ barrier)
     unfolding barred is_next confirmed
     staged_barrier =
         let P : StepLeft → Type 0 = λ l. Keeps s₁ barrier (stepped m₁ l) in
-        on_device_lem P j₁ s [] _ (λ e. no_barrier s₁ i₁ _)
-        (cond_case P (not (leb (o + body_len a (length (payload_for y)) + a) n)) (λ _. no_barrier s₁ i₁ _)
+        on_device_case P j₁ s [] _ (λ e _. no_barrier s₁ i₁ _)
+        (λ _ _. cond_case P (not (leb (o + body_len a (length (payload_for y)) + a) n)) (λ _. no_barrier s₁ i₁ _)
         (λ _. record { kept = firm_inv base s o y (plus w (counts 0 0 0 1)) bs x v; torn = cut_inv s₁ i₁ }))
 
     staged_commit : Keeps s₁ commit (done a r m₁ commit)
     unfolding committed is_next
-    staged_commit = on_device_lem (λ l. Keeps s₁ commit (stepped m₁ l)) j₁ s [] _ (λ e. no_commit s₁ i₁ _) (no_commit s₁ i₁ _)
+    staged_commit = on_device_case (λ l. Keeps s₁ commit (stepped m₁ l)) j₁ s [] _ (λ e _. no_commit s₁ i₁ _) (λ _ _. no_commit s₁ i₁ _)
 
   -- a record's body is confirmed at o: commit seals it, the other steps are refused
   module _ (base s : List ℕ) (o : ℕ) (y : Given) (w : WriteAmplification) (bs : List Given) (x : Sound s) (v : Busy a base s o y bs) where
@@ -266,11 +259,11 @@ module _ (n a r : ℕ) (ok : allowed n a r ≡ true) where
 
     firm_stage : (q : Given) (page : List ℕ) → Keeps s₂ (stage q page) (done a r m₂ (stage q page))
     unfolding staged
-    firm_stage q page = on_device_lem (λ l. Keeps s₂ (stage q page) (stepped m₂ l)) j₂ s page _ (λ e. no_stage s₂ i₂ _ q page) (no_stage s₂ i₂ _ q page)
+    firm_stage q page = on_device_case (λ l. Keeps s₂ (stage q page) (stepped m₂ l)) j₂ s page _ (λ e _. no_stage s₂ i₂ _ q page) (λ _ _. no_stage s₂ i₂ _ q page)
 
     firm_barrier : Keeps s₂ barrier (done a r m₂ barrier)
     unfolding barred is_next
-    firm_barrier = on_device_lem (λ l. Keeps s₂ barrier (stepped m₂ l)) j₂ s [] _ (λ e. no_barrier s₂ i₂ _) (no_barrier s₂ i₂ _)
+    firm_barrier = on_device_case (λ l. Keeps s₂ barrier (stepped m₂ l)) j₂ s [] _ (λ e _. no_barrier s₂ i₂ _) (λ _ _. no_barrier s₂ i₂ _)
 
     abbrev check : ℕ
     check = check_for y.«record» y.free
@@ -293,8 +286,8 @@ module _ (n a r : ℕ) (ok : allowed n a r ≡ true) where
     unfolding committed is_next after_commit
     firm_commit =
         let P : StepLeft → Type 0 = λ l. Keeps s₂ commit (stepped m₂ l) in
-        on_device_lem P j₂ s [] _ (λ e. no_commit s₂ i₂ _)
-        (cond_case P (not (leb (slot + a) n)) (λ _. no_commit s₂ i₂ _)
+        on_device_case P j₂ s [] _ (λ e _. no_commit s₂ i₂ _)
+        (λ _ _. cond_case P (not (leb (slot + a) n)) (λ _. no_commit s₂ i₂ _)
         (λ _.
         record {
           kept = ready_inv sealed_region (slot + a) (plus w (counts 0 a 1 1)) (bs ++ (y ∷ [])) sealed_sound (sealed a some base s o y bs v);

@@ -14,10 +14,11 @@ use Rattle.staging.specs.Stage.{staged}
 use Rattle.append.specs.Append.{barred, committed}
 use Rattle.staging.proofs.Staging.{stages_by}
 use Rattle.append.proofs.Onward.{confirms_by, commits_by}
+use Rattle.progress.proofs.Noted.{on_device_case}
 use Rattle.claim.specs.Events.{Call, opening, stage, barrier, commit, Event, call, cut, cut_in, Held, holds, Machine, Outcome, after_opening, stepped, step_by, done, State, sealed_in, called, cut_off, after_event, run, verdicts, MayBeMade, Valid}
 use Rattle.claim.specs.Promised.{Made, opens, stages, confirms, commits, Result, Plays, rests, calls, cuts, cuts_in}
 use Rattle.claim.specs.Claim.{Exactly}
-use Rattle.claim.proofs.Invariant.{on_device_lem, Inv, lost_inv, ready_inv, staged_inv, firm_inv, keeps}
+use Rattle.claim.proofs.Invariant.{Inv, lost_inv, ready_inv, staged_inv, firm_inv, keeps}
 
 module _ (a r : ℕ) where
   -- a call's results that keep its promise are those that the definitions give
@@ -45,13 +46,13 @@ barred_keeps : (j : Journal) (region : List ℕ) → record { out = (barred j re
 unfolding barred
 barred_keeps j region =
     let P : StepLeft → Type 0 = λ l. record { out = l.out; region = region; page = [] } ≡ l in
-    on_device_lem P j region [] _ (λ e. refl) (cond_case P (not (is_next 1 j)) (λ _. refl) (λ _. refl))
+    on_device_case P j region [] _ (λ e _. refl) (λ _ _. cond_case P (not (is_next 1 j)) (λ _. refl) (λ _. refl))
 
 committed_pageless : (j : Journal) (region : List ℕ) → record { out = (committed j region).out; region = (committed j region).region; page = [] } ≡ committed j region
 unfolding committed
 committed_pageless j region =
     let P : StepLeft → Type 0 = λ l. record { out = l.out; region = l.region; page = [] } ≡ l in
-    on_device_lem P j region [] _ (λ e. refl) (cond_case P (not (is_next 2 j)) (λ _. refl) (λ _. refl))
+    on_device_case P j region [] _ (λ e _. refl) (λ _ _. cond_case P (not (is_next 2 j)) (λ _. refl) (λ _. refl))
 
 -- a journal is at hand
 record Present (h : Held) : Type 0 where

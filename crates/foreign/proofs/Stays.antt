@@ -1,18 +1,17 @@
 -- A byte that something else has written stays: what a record is to take was erased when it was staged, and the steps
 -- program nothing but that.
 -- Assumes nothing.
+use Rattle.std.proofs.lemmas.Bool.{not-false}
 use mathlib.Core.Path.{◌≡◌, refl, sym, ap, subst, ◌∙◌}
-use mathlib.Core.Bool.{Bool, true, false, not, cond, and-eq-true_iff}
+use mathlib.Core.Bool.{Bool, true, not, cond, and-eq-true_iff}
 use mathlib.Core.List.{List, []}
 use Prim.Native.Nat.{ℕ, suc, ◌+◌, ◌≤◌}
 use native.Mathlib.Omega.{arith}
-use lib.Dec.{eqb}
 use lib.ListN.{length}
 use borrow.Author.Tests.{eqb-true}
 use Rattle.waymaker_core.specs.declared.error.Refusal.TheVariants.{OutOfOrder}
 use Rattle.waymaker_core.specs.declared.«record».Record.{Record}
 use Rattle.waymaker_core.proofs.Choice.{cond_case}
-use Rattle.storage.specs.Settings.{allowed}
 use Rattle.storage.proofs.Units.{limits}
 use Rattle.storage.proofs.ErasedBytes.{beyond_erased}
 use Rattle.storage.proofs.Programming.{programmed_behind}
@@ -24,6 +23,7 @@ use Rattle.seal.proofs.Seals.{seal_length}
 use Rattle.roundtrip.proofs.RoundTrip.{body_length}
 use Rattle.journal.specs.declared.Journal.{Journal}
 use Rattle.progress.specs.Phases.{unit_of, StepLeft, keeps, on_device, is_next, confirmed, under_way}
+use Rattle.progress.proofs.Noted.{on_device_case}
 use Rattle.staging.specs.Stage.{body_for, begins, staged}
 use Rattle.staging.proofs.Outcomes.{stage_case}
 use Rattle.append.specs.Append.{barred, after_commit, committed}
@@ -46,7 +46,7 @@ module _ (i v : ℕ) (solid : v ≡ 255 → ⊥) where
     stage_keeps : (x : Record) (free page : List ℕ) → SafeLeft (staged j x free s page)
     unfolding begins under_way record_len
     stage_keeps x free page =
-        stage_case SafeLeft j x free s page (λ e. h)
+        stage_case SafeLeft j x free s page (λ e _. h)
         (λ p g.
         let unit = limits j.geometry.bytes (unit_of j) j.geometry.read_size g.units in
         let solid_here : byte_at i s ≡ 255 → ⊥ = λ e. solid (sym h.is ∙ e) in
@@ -61,14 +61,9 @@ module _ (i v : ℕ) (solid : v ≡ 255 → ⊥) where
 
     -- a step that is refused, or comes to l
     turned : (page : List ℕ) (turn : Bool) (l : StepLeft) → (turn ≡ true → SafeLeft l) → SafeLeft (on_device j s page (cond (not turn) (keeps OutOfOrder j s page) l))
-    unfolding on_device
     turned page turn l go =
-        cond_case SafeLeft (not (allowed j.geometry.bytes (unit_of j) j.geometry.read_size)) (λ _. h)
-        (λ _. cond_case SafeLeft (not (eqb (length s) j.geometry.bytes)) (λ _. h) (λ _. at_turn turn go))
-      where
-        at_turn : (b : Bool) → (b ≡ true → SafeLeft l) → SafeLeft (cond (not b) (keeps OutOfOrder j s page) l)
-        at_turn true f = f refl
-        at_turn false f = h
+        on_device_case SafeLeft j s page _ (λ e _. h)
+        (λ _ _. cond_case SafeLeft (not turn) (λ _. h) (λ t. go (not-false turn t)))
 
     -- a record is under way where barrier or commit are next
     under : (k : ℕ) → is_next (suc k) j ≡ true → j.phase ≡ 0 → ⊥
