@@ -43,16 +43,27 @@ static const char *const reasons[] = {
     [JARDOLENTO_NOT_ERASED] = "a byte where the record is to go is not 0xFF",
 };
 
+static const char *reason(struct jardolento_refused refused)
+{
+    if (refused.has_place && refused.number == JARDOLENTO_INTEGRITY_FAILED)
+        return "erased bytes, and behind them one that is not";
+    if (refused.has_place && refused.number == JARDOLENTO_UNSEALED)
+        return "an intact frame that no seal says was committed, and no erased bytes behind it";
+    return reasons[refused.number];
+}
+
 /* Says which call was refused and why. Answers whether it was. */
 static int is_refused(const char *call, struct jardolento_refused refused)
 {
     if (refused.number == 0)
         return 0;
-    fprintf(stderr, "%s: refusal %u: %s", call, (unsigned)refused.number, reasons[refused.number]);
+    fprintf(stderr, "%s: refusal %u: %s", call, (unsigned)refused.number, reason(refused));
     if (refused.number == JARDOLENTO_PAGE_TOO_SMALL)
         fprintf(stderr, " (%" PRIu32 " bytes needed)", refused.needed);
     if (refused.number == JARDOLENTO_NO_ROOM)
         fprintf(stderr, " (%" PRIu32 " bytes needed, %" PRIu32 " available)", refused.needed, refused.available);
+    if (refused.has_place)
+        fprintf(stderr, " (byte %" PRIu32 " is not 0xFF)", refused.place);
     fputc('\n', stderr);
     return 1;
 }
@@ -111,8 +122,8 @@ static const char *ending_name(uint8_t ending)
 }
 
 /* Prints a line for each record: offset, kind, sequence and payload length. Then how reading ended: where, with which
- * refusal, and how many records of how many bytes were found; or that the settings are refused. Answers the highest
- * sequence. */
+ * refusal, and how many records of how many bytes were found; or that the settings are refused. Why reading was refused
+ * it says on standard error. Answers the highest sequence. */
 static uint32_t list(const struct image *image, uint8_t *page)
 {
     struct jardolento_settings settings = jardolento_geometry_new(image->len, image->program_size, image->read_size);
@@ -139,6 +150,8 @@ static uint32_t list(const struct image *image, uint8_t *page)
     }
     printf("end,%s,%" PRIu32 ",%u,%zu,%zu\n", ending_name(step.state.ending), step.state.offset,
            (unsigned)step.refused.number, records, bytes);
+    fflush(stdout);
+    is_refused("recovery", step.refused);
     return highest;
 }
 
@@ -200,7 +213,6 @@ int main(int argc, char **argv)
     if (!read_image(argv[1], &image))
         return 1;
     highest = list(&image, page);
-    fflush(stdout);
     if (!append(&image, page, highest + 1))
         return 1;
     list(&image, page);

@@ -36,11 +36,16 @@
 extern "C" {
 #endif
 
-/* Why a call declined. number is 0 where it did not. needed and available come with refusals 3 and 13. */
+/* Why a call declined. number is 0 where it did not. needed and available come with refusals 3 and 13. Where has_place
+ * is 1, place is the offset of the first byte that is not 0xFF where all were to be: from the region's start, in a scan
+ * from its slice's. It comes with each 18; with a 9 of a recovery or a scan behind twelve erased bytes; and with a 10 of
+ * theirs for kinds 3, 4 and 6, which would be skipped but for this byte. Else both are 0. */
 struct jardolento_refused {
     uint8_t number;
+    uint8_t has_place;
     uint32_t needed;
     uint32_t available;
+    uint32_t place;
 };
 
 /* The numbers of refusals. */
@@ -57,8 +62,10 @@ enum {
     /* the checks hold, and payload or sequence do not fit the kind; at encode and the lengths a clock kind other than
      * 1 and 2 */
     JARDOLENTO_MALFORMED = 8,
-    JARDOLENTO_INTEGRITY_FAILED = 9,    /* the first two bytes or a check do not match */
-    JARDOLENTO_UNSEALED = 10,           /* an intact frame that no seal says was committed */
+    /* the first two bytes or a check do not match; with a place, erased bytes, and behind them one that is not */
+    JARDOLENTO_INTEGRITY_FAILED = 9,
+    /* an intact frame that no seal says was committed; with a place, one that a byte behind it keeps from being skipped */
+    JARDOLENTO_UNSEALED = 10,
     JARDOLENTO_NOT_APPENDABLE = 11,     /* recovery ended elsewhere than at erased bytes */
     JARDOLENTO_INTERRUPTED = 12,        /* an append is under way, and another one may not begin */
     JARDOLENTO_NO_ROOM = 13,            /* the record takes `needed` bytes, and `available` remain */

@@ -122,6 +122,7 @@ static void pages(void)
     region[sizeof region - 1] = 0xFE;
     step = jardolento_stage(journal, record, free, 65535, region, sizeof region, page, JARDOLENTO_LONGEST_RECORD - 1);
     CHECK(step.refused.number == JARDOLENTO_NOT_ERASED && step.journal.phase == JARDOLENTO_READY);
+    CHECK(step.refused.has_place == 1 && step.refused.place == sizeof region - 1);
     CHECK(region[0] == 0xFF && region[sizeof region - 1] == 0xFE);
     region[sizeof region - 1] = 0xFF;
 
@@ -144,6 +145,60 @@ static void pages(void)
     CHECK(opening.refused.number == 0);
 }
 
+/* The first refusal of a recovery over the region, through a page that takes the tail in chunks. */
+static struct jardolento_refused first_refusal(const uint8_t *region, size_t len)
+{
+    static uint8_t page[21];
+    struct jardolento_recovery_step step;
+
+    step.state = jardolento_recovery_new(jardolento_geometry_new(len, 4, 1).geometry);
+    do {
+        step = jardolento_recovery_next(step.state, region, len, page, sizeof page);
+    } while (step.is_found);
+    return step.refused;
+}
+
+static struct jardolento_refused first_scan_refusal(const uint8_t *journal, size_t len)
+{
+    struct jardolento_scan_step step;
+
+    step.state = jardolento_scan_new(4);
+    do {
+        step = jardolento_scan_next(step.state, journal, len);
+    } while (step.is_found);
+    return step.refused;
+}
+
+static int is_at(struct jardolento_refused refused, uint8_t number, uint8_t has_place, uint32_t place)
+{
+    return refused.number == number && refused.has_place == has_place && refused.place == place;
+}
+
+/* Which byte spoils the tail, or keeps a record from being skipped; a header that it spoils has no place. */
+static void places(void)
+{
+    static uint8_t region[64];
+    struct jardolento_record record = {0};
+
+    memset(region, 0xFF, sizeof region);
+    record.kind = JARDOLENTO_TIMER_FIRED;
+    CHECK(jardolento_encode(record, region, 0, 4, region + 20, 20).bytes == 20);
+    memset(region + 36, 0xFF, 4);
+    memmove(region, region + 20, 20);
+    CHECK(is_at(first_refusal(region, sizeof region), 0, 0, 0));
+
+    region[60] = 0;
+    region[63] = 0;
+    CHECK(is_at(first_refusal(region, sizeof region), JARDOLENTO_INTEGRITY_FAILED, 1, 60));
+    CHECK(is_at(first_scan_refusal(region, sizeof region), JARDOLENTO_INTEGRITY_FAILED, 1, 60));
+    region[39] = 0xFE;
+    CHECK(is_at(first_refusal(region, sizeof region), JARDOLENTO_UNSEALED, 1, 39));
+    CHECK(is_at(first_scan_refusal(region, sizeof region), JARDOLENTO_UNSEALED, 1, 39));
+    region[10] = 0;
+    CHECK(is_at(first_refusal(region, sizeof region), JARDOLENTO_INTEGRITY_FAILED, 0, 0));
+    CHECK(is_at(first_scan_refusal(region, sizeof region), JARDOLENTO_INTEGRITY_FAILED, 0, 0));
+}
+
 int main(void)
 {
     char version[32];
@@ -154,5 +209,6 @@ int main(void)
     seals();
     loops();
     pages();
+    places();
     return failed;
 }

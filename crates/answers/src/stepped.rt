@@ -1,7 +1,8 @@
 // Recovery, scan and find as numbers: their states in both directions, and their answers.
 ghost use Rattle.std.specs.Prelude.{◌≡◌, MatchOption, MatchResult};
-ghost use Rattle.answers.specs.Stepping.{found_as, no_found, ending_of, recovery_of, state_of, recovery_step_by};
-ghost use Rattle.answers.specs.Stepping.{scan_of, scan_state_of, scan_step_by, finding_by};
+ghost use Rattle.answers.specs.Stepping.{found_as, no_found, ending_of, recovery_of, state_of, state_after};
+ghost use Rattle.answers.specs.Stepping.{recovery_step_by, scan_of, scan_state_of, scan_state_after, scan_step_by};
+ghost use Rattle.answers.specs.Stepping.{finding_by};
 ghost use Rattle.numbers.specs.Refusing.{not_refused, refused_by};
 
 use numbers::decoded::ReadRecord;
@@ -192,35 +193,44 @@ fn said<F: Into<FoundRecord>>(answer: Result<Option<F>, Refusal>) -> (Refused, u
 }
 
 // A state that has ended comes back as it was, whatever its number.
+fn state_after(before: RecoveryState, after: Recovery) -> RecoveryState
+    ensures { result ≡ state_after before after }
+{
+    if before.ending == 0 {
+        return RecoveryState::from(after);
+    }
+    before
+}
+
+// The same of one that has stopped: other types and another field, so that one function would be no plainer.
+fn scan_state_after(before: ScanState, after: Scan) -> ScanState
+    ensures { result ≡ scan_state_after before after }
+{
+    if before.stopped == 0 {
+        return ScanState::from(after);
+    }
+    before
+}
+
+// A step of recovery, and below one of scan.
 pub fn step_by(before: RecoveryState, x: Stepped) -> RecoveryStep
     ensures { result ≡ recovery_step_by before x }
 {
-    let state = if before.ending == 0 {
-        RecoveryState::from(x.state)
-    } else {
-        before
-    };
     let (refused, is_found, found) = said(x.answer);
     RecoveryStep {
-        state,
+        state: state_after(before, x.state),
         refused,
         is_found,
         found,
     }
 }
 
-// The same of one that has stopped: other types and another field, so that one function would be no plainer.
 pub fn scan_step_by(before: ScanState, x: ScanStepped) -> ScanStep
     ensures { result ≡ scan_step_by before x }
 {
-    let state = if before.stopped == 0 {
-        ScanState::from(x.state)
-    } else {
-        before
-    };
     let (refused, is_found, found) = said(x.answer);
     ScanStep {
-        state,
+        state: scan_state_after(before, x.state),
         refused,
         is_found,
         found,

@@ -1,6 +1,7 @@
--- The papers' numbers: for each answer that can be a refusal, inputs that meet it, with number, needed and available,
--- and inputs that are not refused, with 0; one computed test that the definitions give them.
+-- The papers' numbers: for each answer that can be a refusal, inputs that meet it, with number, needed, available and
+-- place, and inputs that are not refused, with 0; one computed test that the definitions give them.
 -- Assumes nothing.
+use Rattle.std.specs.Prelude.{Some, None}
 use mathlib.Core.Path.{◌≡◌, refl}
 use mathlib.Core.Bool.{false}
 use mathlib.Core.List.{List, [], ◌∷◌, ◌++◌, map}
@@ -12,7 +13,7 @@ use Rattle.waymaker_core.specs.Kinds.{one_of, known, run_scoped, has_free, seq_f
 use Rattle.integrity.specs.Fcs.{bit_step, bit_steps, octet, octets, fcs, header_check, frame_check}
 use Rattle.storage.specs.declared.geometry.Geometry.{Geometry}
 use Rattle.storage.specs.Settings.{unit_up_to, program_unit, read_unit, region_length, allowed, settings, round_up}
-use Rattle.storage.specs.Media.{programmed_from, erased, ands, programmed, laid_over}
+use Rattle.storage.specs.Media.{programmed_from, first_programmed, erased, ands, programmed, laid_over}
 use Rattle.frame.specs.Bytes.{bytes_le, value_le, field_bytes, fields}
 use Rattle.frame.specs.Lengths.{body_len, record_len, well_given, payload_fits, payload_len, with_unit, encoded_len_for, encoded_len}
 use Rattle.frame.specs.Format.{numbers_of, payload_of, checked_header, header_of, covered_of, check_of, frame_of, padding_of, seal_byte, seal_from, body_of, record_of, sealed_from, seal_holds}
@@ -60,6 +61,10 @@ blank n = replicate n 0xff
 abbrev marked : ℕ → ℕ → List ℕ
 marked i n = blank i ++ 0xfe ∷ blank (n - (i + 1))
 
+-- a record's body and a slot that holds no seal, in which byte i alone is written
+abbrev unsealed : List ℕ → ℕ → List ℕ
+unsealed s i = s ++ marked i 4
+
 -- the refusal of a recovery's first step, of a scan's from an offset, of an opening, of a search for sequence 7
 abbrev at_step : Geometry → List ℕ → ℕ → Numbered
 at_step g region page = refusal_of (step (fresh g) region (replicate page 0)).out.answer
@@ -83,9 +88,10 @@ begun n = staged (ready (units n 4 1) 0) fired [] (blank n) (replicate 20 0)
 abbrev firm : StepLeft
 firm = barred (begun 20).out.journal (begun 20).region
 
--- an answer's refusal, then its number, needed and available as they should be
+-- an answer's refusal, then as it should be: its number, needed and available with no place, or its number and its place
 data Row : Type 0 where
   gives : Numbered → ℕ → ℕ → ℕ → Row
+  marks : Numbered → ℕ → ℕ → Row
 
 table : List Row
 table =
@@ -114,6 +120,12 @@ table =
     ∷ gives (stand_refusal (stands 4 (take 19 whole))) 4 0 0
     ∷ gives (stand_refusal (stands 4 (record_of 4 10 0 []))) 6 0 0
     ∷ gives (stand_refusal (stands 4 (loose 7))) 10 0 0
+    ∷ gives (stand_refusal (stands 4 (unsealed (body_of 4 2 0 (replicate 8 0)) 0))) 10 0 0
+    ∷ marks (stand_refusal (stands 4 (unsealed (body_of 4 6 0 []) 0))) 10 16
+    ∷ marks (stand_refusal (stands 4 (unsealed (body_of 4 6 0 []) 3))) 10 19
+    ∷ gives (stand_refusal (stands 4 (marked 10 11))) 4 0 0
+    ∷ marks (stand_refusal (stands 4 (marked 12 13))) 9 12
+    ∷ gives (stand_refusal (stands 4 (marked 11 13))) 9 0 0
     ∷ gives (at_step (units 20 4 1) whole 20) 0 0 0
     ∷ gives (at_step (units 0 4 1) [] 0) 0 0 0
     ∷ gives (at_step (units 20 3 1) whole 20) 1 0 0
@@ -121,10 +133,16 @@ table =
     ∷ gives (at_step (units 40 4 16) (blank 40) 15) 3 16 0
     ∷ gives (at_step (units 20 4 1) whole 19) 3 20 0
     ∷ gives (at_step (units 20 4 1) (loose 7) 20) 10 0 0
+    ∷ marks (at_step (units 20 4 1) (unsealed (body_of 4 6 0 []) 1) 20) 10 17
+    ∷ marks (at_step (units 40 4 1) (loose 6 ++ unsealed (body_of 4 6 0 []) 1) 20) 10 37
+    ∷ marks (at_step (units 40 4 1) (loose 6 ++ marked 13 20) 20) 9 33
+    ∷ marks (at_step (units 60 4 1) (loose 6 ++ marked 39 40) 20) 9 59
     ∷ gives (at_scan 4 0 whole) 0 0 0
     ∷ gives (at_scan 4 20 whole) 0 0 0
     ∷ gives (at_scan 3 0 whole) 1 0 0
     ∷ gives (at_scan 4 0 (take 19 whole)) 4 0 0
+    ∷ marks (at_scan 4 0 (loose 6 ++ unsealed (body_of 4 6 0 []) 1)) 10 37
+    ∷ marks (at_scan 4 0 (loose 6 ++ marked 13 20)) 9 33
     ∷ gives (at_open 4 1 whole 20) 0 0 0
     ∷ gives (at_open 3 1 whole 20) 1 0 0
     ∷ gives (at_open 4 16 (blank 40) 15) 3 16 0
@@ -141,8 +159,9 @@ table =
     ∷ gives (at_append (staged (ready (units 20 4 1) 0) clockless [] (blank 20) [])) 5 0 0
     ∷ gives (at_append (begun 19)) 13 20 19
     ∷ gives (at_append (staged (ready (units 19 4 1) 0) fired [] (marked 0 19) [])) 13 20 19
-    ∷ gives (at_append (staged (ready (units 20 4 1) 0) fired [] (marked 0 20) [])) 18 0 0
-    ∷ gives (at_append (staged (ready (units 20 4 1) 0) fired [] (marked 19 20) (replicate 20 0))) 18 0 0
+    ∷ marks (at_append (staged (ready (units 20 4 1) 0) fired [] (marked 0 20) [])) 18 0
+    ∷ marks (at_append (staged (ready (units 20 4 1) 0) fired [] (marked 19 20) (replicate 20 0))) 18 19
+    ∷ marks (at_append (staged (ready (units 40 4 1) 20) fired [] (marked 39 40) (replicate 20 0))) 18 39
     ∷ gives (at_append (staged (ready (units 21 4 1) 0) fired [] (marked 20 21) (replicate 20 0))) 0 0 0
     ∷ gives (at_append (staged (ready (units 20 4 1) 0) fired [] (blank 20) [])) 5 0 0
     ∷ gives (at_append firm) 0 0 0
@@ -151,13 +170,15 @@ table =
     ∷ gives (at_append (committed (begun 20).out.journal (begun 20).region)) 14 0 0
     ∷ []
 
-abbrev given : Row → List ℕ
-given (gives x n w m) = x.number ∷ x.needed ∷ x.available ∷ []
+abbrev given : Row → Numbered
+given (gives x n w m) = x
+given (marks x n i) = x
 
-abbrev wished : Row → List ℕ
-wished (gives x n w m) = n ∷ w ∷ m ∷ []
+abbrev wished : Row → Numbered
+wished (gives x n w m) = record { number = n; needed = w; available = m; place = None }
+wished (marks x n i) = record { number = n; needed = 0; available = 0; place = Some i }
 
 -- the whole table, computed
 numbers : map given table ≡ map wished table
-unfolding table one_of known run_scoped has_free seq_fits free_fits widths numbers_len clock_known clock_fits plain_record bit_step bit_steps octet octets fcs header_check frame_check unit_up_to program_unit read_unit region_length allowed settings round_up programmed_from erased ands programmed laid_over bytes_le value_le field_bytes fields body_len record_len well_given payload_fits payload_len with_unit encoded_len_for encoded_len numbers_of payload_of checked_header header_of covered_of check_of frame_of padding_of seal_byte seal_from body_of record_of sealed_from seal_holds overwritten encoded_bytes encoded length_fits record_with well_formed body_at header_at frame_len_of frame_under decoded settled judged shape_of stands walk_over walk scanned step_of capacity_of laid tail_reads further wanted made seen_by paged reads_at reads_all walk_from page_after before step to_end founds carries kept latest find_in opened on_device as_staged under_way begins staged is_next confirmed barred after_commit committed
+unfolding table one_of known run_scoped has_free seq_fits free_fits widths numbers_len clock_known clock_fits plain_record bit_step bit_steps octet octets fcs header_check frame_check unit_up_to program_unit read_unit region_length allowed settings round_up programmed_from first_programmed erased ands programmed laid_over bytes_le value_le field_bytes fields body_len record_len well_given payload_fits payload_len with_unit encoded_len_for encoded_len numbers_of payload_of checked_header header_of covered_of check_of frame_of padding_of seal_byte seal_from body_of record_of sealed_from seal_holds overwritten encoded_bytes encoded length_fits record_with well_formed body_at header_at frame_len_of frame_under decoded settled judged shape_of stands walk_over walk scanned step_of capacity_of laid tail_reads further wanted made seen_by paged reads_at reads_all walk_from page_after before step to_end founds carries kept latest find_in opened on_device as_staged under_way begins staged is_next confirmed barred after_commit committed
 numbers = refl

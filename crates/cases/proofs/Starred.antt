@@ -1,12 +1,12 @@
 -- Document 01's starred cases: a table of inputs, a table of results, and one computed test that the definitions
--- give the one for the other. A refusal is given by its number and values, all 0 where there is none.
+-- give the one for the other. A refusal is given by its number and values, all 0 where there is none, and its place.
 -- Assumes nothing.
-use Rattle.std.specs.Prelude.{Ok, Err}
+use Rattle.std.specs.Prelude.{Ok, Err, Some}
 use mathlib.Core.Path.{◌≡◌, refl}
 use mathlib.Core.List.{List, [], ◌∷◌, ◌++◌, map}
 use Prim.Native.Nat.{ℕ}
 use lib.ListN.{length, replicate}
-use Rattle.waymaker_core.specs.Refusals.{Numbered, refusal_of}
+use Rattle.waymaker_core.specs.Refusals.{Numbered, bare, no_refusal, refusal_of}
 use Rattle.storage.specs.Settings.{unit_up_to, program_unit, read_unit, region_length, allowed, round_up}
 use Rattle.storage.specs.Media.{programmed_from, erased, laid_over}
 use Rattle.frame.specs.Lengths.{Size, body_len, record_len, payload_fits, with_unit, encoded_len_for}
@@ -27,26 +27,22 @@ pub data Case : Type 0 where
   -- a recovery's first step over a region, with a = 4, r = 1 and a page of 12 bytes
   recovery : List ℕ → Case
 
--- a refusal's number, what it needed and what was available
-abbrev pub told : Numbered → List ℕ
-told x = x.number ∷ x.needed ∷ x.available ∷ []
-
 pub data Result : Type 0 where
   -- a length, 0 where it is refused, and the refusal
-  sized : ℕ → List ℕ → Result
+  sized : ℕ → Numbered → Result
   slot : List ℕ → Result
   -- the ending, its offset, and the refusal
-  ended : Ending → ℕ → List ℕ → Result
+  ended : Ending → ℕ → Numbered → Result
 
 abbrev pub length_in : Size → ℕ
 length_in (Ok n) = n
 length_in (Err e) = 0
 
 abbrev pub on_size : Size → Result
-on_size z = sized (length_in z) (told (refusal_of z))
+on_size z = sized (length_in z) (refusal_of z)
 
 abbrev pub on_step : Stepped → Result
-on_step x = ended x.state.ending x.state.offset (told (refusal_of x.answer))
+on_step x = ended x.state.ending x.state.offset (refusal_of x.answer)
 
 -- the first step over a region of its own length
 abbrev pub first_step : List ℕ → Stepped
@@ -75,8 +71,8 @@ inputs =
     ∷ recovery (replicate 12 0xff ++ (0x00 ∷ []))
     ∷ []
 
-abbrev none : List ℕ
-none = 0 ∷ 0 ∷ 0 ∷ []
+abbrev none : Numbered
+none = no_refusal
 
 pub results : List Result
 results =
@@ -85,14 +81,14 @@ results =
     ∷ sized 512 none
     ∷ sized 24 none
     ∷ sized 66048 none
-    ∷ sized 0 (5 ∷ 0 ∷ 0 ∷ [])
+    ∷ sized 0 (bare 5)
     ∷ slot (0x01 ∷ 0x02 ∷ 0x03 ∷ 0x04 ∷ 0x01 ∷ 0x02 ∷ 0x03 ∷ 0x04 ∷ [])
     ∷ slot (0x7f ∷ 0x7f ∷ [])
     ∷ ended Clean 0 none
     ∷ ended Clean 0 none
-    ∷ ended Damaged 0 (4 ∷ 0 ∷ 0 ∷ [])
+    ∷ ended Damaged 0 (bare 4)
     ∷ ended Clean 0 none
-    ∷ ended Damaged 0 (9 ∷ 0 ∷ 0 ∷ [])
+    ∷ ended Damaged 0 (record { number = 9; needed = 0; available = 0; place = Some 12 })
     ∷ []
 
 pub starred : map tried inputs ≡ results

@@ -7,7 +7,7 @@ use lib.ListN.{drop}
 use Prim.Native.Nat.{ℕ}
 use Rattle.storage.specs.Media.{erased}
 use Rattle.place.specs.declared.Stop.{Stop}
-use Rattle.place.specs.declared.Stop.TheVariants.{End, Bad, NoSeal, TooSmall}
+use Rattle.place.specs.declared.Stop.TheVariants.{End, Bad, BadTail, NoSeal, NoSkip, TooSmall}
 use Rattle.place.specs.declared.Stand.{Stand}
 use Rattle.place.specs.declared.Stand.TheVariants.{Met, Passed, Over}
 
@@ -15,7 +15,9 @@ use Rattle.place.specs.declared.Stand.TheVariants.{Met, Passed, Over}
 abbrev pub CalmEnd : List ℕ → Stop → Type 0
 CalmEnd t End = erased t ≡ true
 CalmEnd t (Bad e) = Unit {0}
+CalmEnd t (BadTail i) = Unit {0}
 CalmEnd t NoSeal = Unit {0}
+CalmEnd t (NoSkip i) = Unit {0}
 CalmEnd t (TooSmall n) = Unit {0}
 
 abbrev pub Calm : List ℕ → Stand → Type 0

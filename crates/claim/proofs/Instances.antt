@@ -1,6 +1,6 @@
 -- The instances hold: one computed test of the whole table, and laws that what is tested is so with every large page.
 -- Assumes nothing.
-use Rattle.std.specs.Prelude.{Ok, Err}
+use Rattle.std.specs.Prelude.{Ok, Err, Some, None, Option}
 use mathlib.Core.Path.{◌≡◌, refl, sym, ap, ap₂, ◌∙◌, subst}
 use mathlib.Core.Bool.{Bool, true, false, not, cond, ◌&&◌, false≢true, and-eq-true_iff}
 use mathlib.Core.Logic.{◌⊎◌, inl, inr, ⊎_elim}
@@ -15,7 +15,7 @@ use borrow.Author.Tests.{eqb-true, ltb-true, ltb-false, le-ltb}
 use Rattle.waymaker_core.specs.declared.«record».Record.{Record}
 use Rattle.waymaker_core.specs.Kinds.{one_of, known, run_scoped, has_free, seq_fits, free_fits, widths, numbers_len, clock_known, clock_fits}
 use Rattle.storage.specs.Settings.{unit_up_to, program_unit, read_unit, region_length, allowed, round_up}
-use Rattle.storage.specs.Media.{programmed_from, erased, ands, programmed}
+use Rattle.storage.specs.Media.{programmed_from, first_programmed, erased, ands, programmed}
 use Rattle.integrity.specs.Fcs.{bit_step, bit_steps, octet, octets, fcs, header_check, frame_check}
 use Rattle.frame.specs.Lengths.{Size, body_len, record_len, well_given, payload_fits, payload_len}
 use Rattle.frame.specs.Bytes.{bytes_le, value_le, field_bytes, fields}
@@ -30,7 +30,7 @@ use Rattle.roundtrip.specs.Typed.{AllBytes, Typed}
 use Rattle.journal.specs.declared.Journal.{Journal}
 use Rattle.journal.specs.Opening.{Opening, opening_of}
 use Rattle.progress.specs.Phases.{unit_of, on_device, is_next, confirmed, under_way}
-use Rattle.staging.specs.Stage.{room_of, coming, staged_with, as_staged, begins, staged}
+use Rattle.staging.specs.Stage.{room_of, coming, staged_over, staged_with, as_staged, begins, staged}
 use Rattle.append.specs.Append.{barred, after_commit, committed}
 use Rattle.claim.specs.Cuts.{bit, Mixed, Cut}
 use Rattle.claim.specs.Saying.{Given, given, all_given}
@@ -127,7 +127,7 @@ expected x = record { valid = true; verdicts = answers x.entries; book = x.book 
 
 -- the whole table, computed
 tried_table : map tried table ≡ map expected table
-unfolding traced walk walk_over stands shape_of erased programmed_from programmed ands bit_step bit_steps octet octets fcs header_check frame_check bytes_le value_le field_bytes fields body_len record_len well_given payload_fits payload_len numbers_of payload_of checked_header header_of covered_of check_of frame_of padding_of seal_byte seal_from body_of sealed_from seal_holds widths round_up length_fits record_with well_formed body_at header_at frame_under decoded settled judged known seq_fits run_scoped has_free one_of free_fits clock_known clock_fits numbers_len allowed region_length program_unit read_unit unit_up_to as_staged on_device under_way begins staged is_next confirmed barred after_commit committed
+unfolding traced walk walk_over stands shape_of erased programmed_from first_programmed programmed ands bit_step bit_steps octet octets fcs header_check frame_check bytes_le value_le field_bytes fields body_len record_len well_given payload_fits payload_len numbers_of payload_of checked_header header_of covered_of check_of frame_of padding_of seal_byte seal_from body_of sealed_from seal_holds widths round_up length_fits record_with well_formed body_at header_at frame_under decoded settled judged known seq_fits run_scoped has_free one_of free_fits clock_known clock_fits numbers_len allowed region_length program_unit read_unit unit_up_to as_staged on_device under_way begins staged is_next confirmed barred after_commit committed
 tried_table = refl
 
 -- # What it tests is so
@@ -220,14 +220,18 @@ module _ (m : Machine) (j : Journal) (x : Given) (p q : List ℕ) (hp : j.geomet
       (λ _. cond_same (stepped m) (not (eqb (length m.region) j.geometry.bytes)) (λ _. refl)
       (λ _. cond_same (stepped m) (not (eqb j.phase 0)) (λ _. refl) (λ _. go (payload_len x.«record» (length x.free)))))
     where
+      over : (n : ℕ) → record_len (unit_of j) n ≤ room_of j → (z : Option ℕ)
+          → stepped m (staged_over j x.«record» x.free m.region p n z) ≡ stepped m (staged_over j x.«record» x.free m.region q n z)
+      over n k (Some i) = refl
+      over n k None = rw (le-ltb (length p) (record_len (unit_of j) n) (omega arith), le-ltb (length q) (record_len (unit_of j) n) (omega arith))
+
       go : (z : Size) → stepped m (staged_with j x.«record» x.free m.region p z) ≡ stepped m (staged_with j x.«record» x.free m.region q z)
       go (Err e) = refl
       go (Ok n) =
           cond_same (stepped m) (ltb (room_of j) (record_len (unit_of j) n)) (λ _. refl)
           (λ l.
           let k : record_len (unit_of j) n ≤ room_of j = ltb-false (room_of j) (record_len (unit_of j) n) l in
-          cond_same (stepped m) (not (erased (coming j n m.region))) (λ _. refl)
-          (λ _. rw (le-ltb (length p) (record_len (unit_of j) n) (omega arith), le-ltb (length q) (record_len (unit_of j) n) (omega arith))))
+          over n k (coming j n m.region))
 
 -- a large page
 module _ (page : List ℕ) (h : Large page) where

@@ -23,7 +23,7 @@ use Rattle.recovery.specs.Next.{fresh}
 use Rattle.look.proofs.Pages.{front_bytes, capacity_large}
 use Rattle.finish.specs.Finish.{last_of, founds, to_end}
 use Rattle.place.specs.declared.Stop.{Stop}
-use Rattle.place.specs.declared.Stop.TheVariants.{End, Bad, NoSeal, TooSmall}
+use Rattle.place.specs.declared.Stop.TheVariants.{End, Bad, BadTail, NoSeal, NoSkip, TooSmall}
 use Rattle.place.specs.Walk.{plain, walk}
 use Rattle.finish.proofs.Walks.{Goes, run_without_page}
 use Rattle.roundtrip.specs.Typed.{AllBytes, Typed}
@@ -128,7 +128,9 @@ module _ (n a r : ℕ) (ok : allowed n a r ≡ true) where
       go : (e : Stop) → (walk (plain a) s 0).stop ≡ e → P (opening_of g (last_of (fresh g) (record { points = (walk (plain a) s 0).points; at = (walk (plain a) s 0).at; stop = e })))
       go End f = ready_inv s (walk (plain a) s 0).at nothing_written bs x (opened_ready a some s bs (skipped_local a some) v f)
       go (Bad e) f = lost_inv s bs x v
+      go (BadTail i) f = lost_inv s bs x v
       go NoSeal f = lost_inv s bs x v
+      go (NoSkip i) f = lost_inv s bs x v
       go (TooSmall m) f = lost_inv s bs x v
 
   -- a cut between two calls keeps the invariant

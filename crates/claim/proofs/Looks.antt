@@ -1,7 +1,7 @@
 -- What stands at the start of a tail: a record by its own bytes alone, with its seal or without it, and a torn body.
 -- a is the program unit.
 -- Assumes nothing.
-use Rattle.std.specs.Prelude.{Ok}
+use Rattle.std.specs.Prelude.{Ok, Some, None, Option}
 use mathlib.Core.Path.{◌≡◌, refl, sym, ap, ap₂, ◌∙◌}
 use mathlib.Core.Bool.{Bool, true, false, not, ◌&&◌, and-eq-true_iff}
 use mathlib.Core.List.{List, [], ◌∷◌, ◌++◌, append_assoc}
@@ -14,7 +14,7 @@ use borrow.Author.Tests.{le-ltb, ltb-false, not-false, eqb-true, ne_eqb}
 use Rattle.waymaker_core.specs.declared.error.DecodeError.{DecodeError}
 use Rattle.waymaker_core.specs.declared.«record».Record.{Record}
 use Rattle.waymaker_core.proofs.Choice.{cond_case}
-use Rattle.storage.specs.Media.{erased}
+use Rattle.storage.specs.Media.{first_programmed, erased}
 use Rattle.storage.proofs.Rounding.{up_least}
 use Rattle.storage.proofs.ErasedBytes.{erased_cons, erased_append, erased_is}
 use Rattle.frame.specs.Lengths.{frame_len, body_len, record_len}
@@ -31,8 +31,10 @@ use Rattle.roundtrip.proofs.Frames.{header_of_frame, payload_size, payload_small
 use Rattle.roundtrip.proofs.Fronts.{header_front}
 use Rattle.roundtrip.proofs.RoundTrip.{frame_given, frame_read, Taken, body_length}
 use Rattle.place.specs.declared.Stand.{Stand}
-use Rattle.place.specs.declared.Stand.TheVariants.{Met, Passed}
-use Rattle.place.specs.AtOffset.{redeliverable, settled, judged_by, judged, shape_of, clean_or, stands}
+use Rattle.place.specs.declared.Stand.TheVariants.{Met, Passed, Over}
+use Rattle.place.specs.declared.Stop.{Stop}
+use Rattle.place.specs.declared.Stop.TheVariants.{End, Bad, BadTail, NoSeal, NoSkip}
+use Rattle.place.specs.AtOffset.{redeliverable, settled, judged_by, judged, shape_of, skip_or, stands}
 use Rattle.place.proofs.Cases.{settled_case, judged_case, stands_case}
 use Rattle.place.proofs.Lengths.{near_stands}
 use Rattle.staging.specs.Stage.{check_for, body_for}
@@ -75,14 +77,9 @@ header_first s l =
     let k : length (take 12 s) ≡ 12 = length-take-le 12 s l in
     sym (header_front (take 12 s) (drop 12 s) (omega arith)) ∙ ap header_at (take-append-drop 12 s)
 
-clean_skips : {A : Type 0} (d : DecodeError) (b : Bool) (n : ℕ) → clean_or d b ≡ Passed n → A
-clean_skips d true n e = let z : ◌≡◌ {A = ℕ} 0 1 = cc in absurd (omega arith)
-clean_skips d false n e = let z : ◌≡◌ {A = ℕ} 0 1 = cc in absurd (omega arith)
-
--- where an end is clean, all is erased
-calm_end : (t : List ℕ) (d : DecodeError) (b : Bool) → erased t ≡ b → Calm t (clean_or d b)
-calm_end t d true e = e
-calm_end t d false e = tt
+-- an end is no skip
+end_skips : {A : Type 0} (d : Stop) (n : ℕ) → Over d ≡ Passed n → A
+end_skips d n e = let z : ◌≡◌ {A = ℕ} 0 1 = cc in absurd (omega arith)
 
 module _ (a : ℕ) where
   record_is : (p : ℕ) → record_len a p ≡ body_len a p + a
@@ -93,21 +90,24 @@ module _ (a : ℕ) where
   skips_all : (s : List ℕ) (n : ℕ) → judged a s ≡ Passed n → length s ≡ n
   skips_all s n =
       let P : Stand → Type 0 = λ x. x ≡ Passed n → length s ≡ n in
-      judged_case a P s (λ d e. let z : ◌≡◌ {A = ℕ} 0 1 = cc in absurd (omega arith))
+      judged_case a P s (λ d. end_skips (Bad d) n)
       (λ f. settled_case a P f s (λ x e. let z : ◌≡◌ {A = ℕ} 0 1 = cc in absurd (omega arith)) (λ e. cc)
-      (λ d e. let z : ◌≡◌ {A = ℕ} 0 1 = cc in absurd (omega arith)) (λ e. let z : ◌≡◌ {A = ℕ} 0 1 = cc in absurd (omega arith)))
+      (λ d. end_skips (Bad d) n) (end_skips NoSeal n) (λ i _. end_skips (NoSkip i) n))
 
   -- a record whose slot holds no seal is calm where all behind it is erased
   calm_settled : (t : List ℕ) (f : FrameOf) (s : List ℕ) → seal_holds f.frame_crc (drop (length s - a) s) ≡ false → erased (drop (length s) t) ≡ true
       → Calm t (settled a f s)
   unfolding settled
-  calm_settled t f s e i = rw e (cond_case (Calm t) (redeliverable f.decoded && erased (drop f.frame_len s)) (λ _. i) (λ _. tt))
+  calm_settled t f s e i = rw e (cond_case (Calm t) (redeliverable f.decoded) (λ _. skip (first_programmed s f.frame_len (length s))) (λ _. tt)) where
+    skip : (z : Option ℕ) → Calm t (skip_or (length s) z)
+    skip None = i
+    skip (Some at) = tt
 
   -- A torn body, erased from a place on that is not behind the end of the body its header gives, is never found, and is clean or skipped before erased bytes only.
   pub calm_torn : 0 < a → (w : List ℕ) (d : ℕ) → erased (drop d w) ≡ true
       → ((v : VerifiedHeader) → header_at (take 12 w) ≡ Ok v → d ≤ body_len a v.payload_len) → Calm w (stands a w)
   calm_torn h w d e far =
-      stands_case a (Calm w) w (λ x. calm_end w x (erased w) refl) (λ x. tt)
+      stands_case a (Calm w) w (λ x. x) (λ at x. tt) (λ x. tt)
       (λ v i l.
       let b : ℕ = body_len a v.payload_len in
       let m : ℕ = record_len a v.payload_len in
@@ -147,8 +147,9 @@ module _ (a : ℕ) where
     pub skipped_local : (t : List ℕ) (n : ℕ) → stands a t ≡ Passed n → (rest : List ℕ) → stands a (take n t ++ rest) ≡ Passed n
     skipped_local t n =
         stands_case a (λ x. x ≡ Passed n → (rest : List ℕ) → stands a (take n t ++ rest) ≡ Passed n) t
-        (λ d e rest. clean_skips d (erased t) n e)
-        (λ d e rest. let z : ◌≡◌ {A = ℕ} 0 1 = cc in absurd (omega arith))
+        (λ _ e rest. end_skips End n e)
+        (λ at _ e rest. end_skips (BadTail at) n e)
+        (λ d e rest. end_skips (Bad d) n e)
         (λ v i l e rest.
         let m : ℕ = record_len a v.payload_len in
         let long : 12 ≤ m = omega (arith, record_least v.payload_len) in

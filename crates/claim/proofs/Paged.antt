@@ -22,7 +22,7 @@ use Rattle.decode.specs.declared.VerifiedHeader.{VerifiedHeader}
 use Rattle.decode.specs.Decode.{Header, Decoding, header_at, framed, frame_under, on_header, decoded}
 use Rattle.decode.specs.declared.Frame.{Frame as FrameOf}
 use Rattle.place.specs.declared.Stop.{Stop}
-use Rattle.place.specs.declared.Stop.TheVariants.{End, Bad, NoSeal, TooSmall}
+use Rattle.place.specs.declared.Stop.TheVariants.{End, Bad, BadTail, NoSeal, NoSkip, TooSmall}
 use Rattle.place.specs.declared.Stand.{Stand}
 use Rattle.place.specs.declared.Stand.TheVariants.{Met, Passed, Over}
 use Rattle.place.specs.AtOffset.{settled, judged_by, judged, Shape, Short, Blank, BadHeader, Overlong, Whole, headed, shape_of, stand_by, stands, end_answer}
@@ -62,7 +62,7 @@ Inner m (Passed n) = Unit {0}
 Inner m (Over e) = Unit {0}
 
 inner_settled : (a : ℕ) (f : FrameOf) (s : List ℕ) → f.payload.place + f.payload.len ≤ length s → Inner (length s) (settled a f s)
-inner_settled a f s h = settled_case a (Inner (length s)) f s (λ x. h) tt (λ e. tt) tt
+inner_settled a f s h = settled_case a (Inner (length s)) f s (λ x. h) tt (λ e. tt) tt (λ i e. tt)
 
 inner_under : (a : ℕ) (s : List ℕ) (v : VerifiedHeader) → Inner (length s) (judged_by a s (frame_under v s))
 unfolding frame_under
@@ -199,10 +199,12 @@ module _ (s : Recovery) (region page : List ℕ) where
   paged_arrived : (z : Step) (q : List ℕ) → HoldsStep region q z → Paged region q (arrived s z).answer
   paged_arrived (meets o x) q k = k
   paged_arrived (stops o e) q k = go e where
-    go : (d : Stop) → Paged region q (end_answer d)
+    go : (d : Stop) → Paged region q (end_answer o d)
     go End = tt
     go (Bad x) = tt
+    go (BadTail i) = tt
     go NoSeal = tt
+    go (NoSkip i) = tt
     go (TooSmall n) = tt
 
   paged_says : (z : Answer) → not_found z → Paged region page z

@@ -10,13 +10,13 @@ use lib.ListN.{length, take, drop, length-append, length-drop, take-append-drop}
 use lib.Seq.{length-take-le, take-append-le, drop-append-le, drop-append_seam, drop-append-add}
 use Rattle.waymaker_core.proofs.Choice.{cond_case}
 use Rattle.storage.specs.Media.{erased}
-use Rattle.storage.proofs.ErasedBytes.{erased_append}
+use Rattle.storage.proofs.ErasedBytes.{erased_append, nothing_found}
 use Rattle.waymaker_core.specs.declared.«record».RecordRef.{RecordRef}
 use Rattle.payload.specs.declared.Decoded.{Decoded}
 use Rattle.payload.specs.declared.Decoded.TheVariants.{Record as Known}
 use Rattle.payload.specs.Payload.{part}
 use Rattle.place.specs.declared.Stop.{Stop}
-use Rattle.place.specs.declared.Stop.TheVariants.{End, Bad, NoSeal, TooSmall}
+use Rattle.place.specs.declared.Stop.TheVariants.{End, Bad, BadTail, NoSeal, NoSkip, TooSmall}
 use Rattle.place.specs.declared.Stand.{Stand}
 use Rattle.place.specs.declared.Stand.TheVariants.{Met, Passed, Over}
 use Rattle.place.specs.AtOffset.{shape_of, stand_by, stands}
@@ -99,7 +99,7 @@ unfolding stands shape_of
 erased_stands a t e =
     let both = (and-eq-true_iff (erased (take 12 t)) (erased (drop 12 t))).0 (sym (ap erased (sym (take-append-drop 12 t)) ∙ erased_append (take 12 t) (drop 12 t)) ∙ e) in
     let start : erased (take 12 t) ≡ true = both.0 in
-    rw start (cond_case (λ s. stand_by a t s ≡ Over End) (ltb (length t) 12) (λ _. rw e) (λ _. rw e))
+    rw start (cond_case (λ s. stand_by a t s ≡ Over End) (ltb (length t) 12) (λ _. rw e) (λ _. rw (nothing_found 0 t e)))
 
 -- erased bytes are calm
 pub erased_calm : (a : ℕ) (t : List ℕ) → erased t ≡ true → Calm t (stands a t)
@@ -192,7 +192,9 @@ module _ (a : ℕ) (h : 0 < a) where
         end : (d : Stop) → (walk (plain a) (pre ++ t) (length pre)).at ≡ length pre → d ≡ End → CalmEnd t d → SkipsTo (walk (plain a) (pre ++ t) (length pre)).at
         end End i z k = record { by = 0; fits = omega arith; place = i ∙ omega arith; passes = passes_none a; blank = k }
         end (Bad x) i z k = let no : ◌≡◌ {A = ℕ} 0 1 = cc in absurd (omega arith)
+        end (BadTail at) i z k = let no : ◌≡◌ {A = ℕ} 0 1 = cc in absurd (omega arith)
         end NoSeal i z k = let no : ◌≡◌ {A = ℕ} 0 1 = cc in absurd (omega arith)
+        end (NoSkip at) i z k = let no : ◌≡◌ {A = ℕ} 0 1 = cc in absurd (omega arith)
         end (TooSmall n) i z k = let no : ◌≡◌ {A = ℕ} 0 1 = cc in absurd (omega arith)
 
     -- from the start the walk says what the front says, and goes on as from its end

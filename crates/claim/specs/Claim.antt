@@ -1,6 +1,7 @@
 -- Demand 3: the claim, a clause for each thing that the demand claims.
 -- A region of n bytes, program unit a, read unit r; es is the list: calls, refused ones too, and cuts.
 use Rattle.std.specs.Prelude.{◌≡◌, true, List, ◌∷◌, ◌++◌, ℕ, drop, Ok}
+use Rattle.waymaker_core.specs.declared.error.Span.TheVariants.{Ahead}
 use Rattle.waymaker_core.specs.declared.error.Refusal.TheVariants.{NotErased}
 use Rattle.storage.specs.declared.geometry.Geometry.{Geometry}
 use Rattle.storage.specs.Settings.{allowed}
@@ -58,5 +59,5 @@ Theorem = (n a r : ℕ) → allowed n a r ≡ true → (es : List Event) → Val
 -- beside it: on the same premises no stage after the list is refused with 18, whatever it is given
 abbrev pub FindsErased : Type 0
 FindsErased = (n a r : ℕ) → allowed n a r ≡ true → (es : List Event) → Valid a r (start n) es
-    → (x : Given) (page : List ℕ)
-    → (done a r (after n a r es).machine (stage x page)).verdict ≡ refused_with NotErased → ⊥
+    → (x : Given) (page : List ℕ) (i : ℕ)
+    → (done a r (after n a r es).machine (stage x page)).verdict ≡ refused_with (NotErased Ahead i) → ⊥

@@ -5,9 +5,10 @@ use mathlib.Core.List.{List, [], ◌∷◌}
 use Prim.Native.Nat.{ℕ}
 use lib.ListN.{replicate}
 use Rattle.waymaker_core.specs.Kinds.{one_of, known, run_scoped, has_free, seq_fits, free_fits, widths, numbers_len, clock_known, clock_fits}
+use Rattle.waymaker_core.specs.declared.error.Span.TheVariants.{Ahead}
 use Rattle.waymaker_core.specs.declared.error.Refusal.TheVariants.{NotErased, OutOfOrder}
 use Rattle.storage.specs.Settings.{unit_up_to, program_unit, read_unit, region_length, allowed, round_up}
-use Rattle.storage.specs.Media.{programmed_from, erased, ands, programmed}
+use Rattle.storage.specs.Media.{programmed_from, first_programmed, erased, ands, programmed}
 use Rattle.integrity.specs.Fcs.{bit_step, bit_steps, octet, octets, fcs, header_check, frame_check}
 use Rattle.frame.specs.Bytes.{bytes_le, field_bytes, fields}
 use Rattle.frame.specs.Lengths.{body_len, record_len, well_given, payload_fits, payload_len}
@@ -24,7 +25,7 @@ use Rattle.append.proofs.Onward.{confirms_by, commits_by}
 use Rattle.claim.specs.Saying.{Given}
 use Rattle.claim.specs.Instances.{armed, fired}
 use Rattle.foreign.specs.Foreign.{Event, barrier, commit, Leads, rests, stages, confirms, commits, writes}
-use Rattle.instances.specs.Foreign.{noted, noted_behind, noted_twice, at_start, behind, stages_to, goes_through, Instances}
+use Rattle.instances.specs.Foreign.{noted, noted_behind, noted_twice, at_start, behind, spoiled, stages_to, goes_through, Instances}
 
 -- a page of 64 bytes
 abbrev page : List ℕ
@@ -55,23 +56,23 @@ committed_fired = committed barred_fired.out.journal staged_fired.region
 
 module _ (i : ℕ) (k : Journal) (t : List ℕ) (es : List Event) where
   append_fired : Leads i behind noted_behind es k t → Leads i at_start noted (goes_through es) k t
-  unfolding erased programmed_from programmed ands bit_step bit_steps octet octets fcs header_check frame_check bytes_le field_bytes fields body_len record_len well_given payload_fits payload_len numbers_of payload_of checked_header header_of covered_of check_of frame_of padding_of seal_byte seal_from body_of widths round_up known seq_fits run_scoped has_free one_of free_fits clock_known clock_fits numbers_len allowed region_length program_unit read_unit unit_up_to on_device under_way begins staged is_next confirmed barred after_commit committed
+  unfolding erased programmed_from first_programmed programmed ands bit_step bit_steps octet octets fcs header_check frame_check bytes_le field_bytes fields body_len record_len well_given payload_fits payload_len numbers_of payload_of checked_header header_of covered_of check_of frame_of padding_of seal_byte seal_from body_of widths round_up known seq_fits run_scoped has_free one_of free_fits clock_known clock_fits numbers_len allowed region_length program_unit read_unit unit_up_to on_device under_way begins staged is_next confirmed barred after_commit committed
   append_fired l =
       by_stage i k t (barrier (Ok Confirmed) ∷ (commit (Ok (Committed (counts 0 20 2 2))) ∷ es)) at_start noted fired staged_fired refl
       (by_barrier i k t (commit (Ok (Committed (counts 0 20 2 2))) ∷ es) staged_fired.out.journal staged_fired.region barred_fired.out refl
       (by_commit i k t es barred_fired.out.journal staged_fired.region committed_fired refl l))
 
   -- a stage that is refused with 18: a record of 40 bytes at the start and one of 20 behind the other
-  refused_at_start : Leads i at_start noted es k t → Leads i at_start noted (stages_to armed (Err NotErased) ∷ es) k t
-  unfolding erased programmed_from body_len record_len well_given payload_fits payload_len widths round_up known seq_fits run_scoped has_free one_of free_fits clock_known clock_fits numbers_len allowed region_length program_unit read_unit unit_up_to on_device staged
-  refused_at_start l = by_stage i k t es at_start noted armed (keeps NotErased at_start noted page) refl l
+  refused_at_start : Leads i at_start noted es k t → Leads i at_start noted (stages_to armed spoiled ∷ es) k t
+  unfolding erased programmed_from first_programmed body_len record_len well_given payload_fits payload_len widths round_up known seq_fits run_scoped has_free one_of free_fits clock_known clock_fits numbers_len allowed region_length program_unit read_unit unit_up_to on_device staged
+  refused_at_start l = by_stage i k t es at_start noted armed (keeps (NotErased Ahead 30) at_start noted page) refl l
 
-  refused_behind : (x : Given) (s : List ℕ) → keeps NotErased behind s page ≡ staged behind x.«record» x.free s page → Leads i behind s es k t
-      → Leads i behind s (stages_to x (Err NotErased) ∷ es) k t
-  refused_behind x s e l = by_stage i k t es behind s x (keeps NotErased behind s page) e l
+  refused_behind : (x : Given) (s : List ℕ) → keeps (NotErased Ahead 30) behind s page ≡ staged behind x.«record» x.free s page → Leads i behind s es k t
+      → Leads i behind s (stages_to x spoiled ∷ es) k t
+  refused_behind x s e l = by_stage i k t es behind s x (keeps (NotErased Ahead 30) behind s page) e l
 
 pub instances : Instances
-unfolding erased programmed_from body_len record_len well_given payload_fits payload_len widths round_up known seq_fits run_scoped has_free one_of free_fits clock_known clock_fits numbers_len allowed region_length program_unit read_unit unit_up_to on_device staged barred is_next
+unfolding erased programmed_from first_programmed body_len record_len well_given payload_fits payload_len widths round_up known seq_fits run_scoped has_free one_of free_fits clock_known clock_fits numbers_len allowed region_length program_unit read_unit unit_up_to on_device staged barred is_next
 instances =
     record {
       refused =

@@ -1,6 +1,7 @@
 -- Instances of the theorem on what something else has written, over a region of 64 bytes, program unit 4, read unit 1,
 -- of which it has written bytes 30 and 31: so the theorem speaks of something.
 use Rattle.std.specs.Prelude.{List, [], ◌∷◌, ◌++◌, ℕ, replicate, Ok, Err}
+use Rattle.waymaker_core.specs.declared.error.Span.TheVariants.{Ahead}
 use Rattle.waymaker_core.specs.declared.error.Refusal.TheVariants.{NotErased, OutOfOrder}
 use Rattle.counts.specs.Counts.{counts}
 use Rattle.journal.specs.declared.Journal.{Journal}
@@ -41,6 +42,10 @@ at_start = idle (units 64 4 1) 0 (counts 0 0 0 0)
 abbrev pub behind : Journal
 behind = idle (units 64 4 1) 20 (counts 0 20 2 2)
 
+-- refused for byte 30, the first that is not 0xFF
+abbrev pub spoiled : StepAnswer
+spoiled = Err (NotErased Ahead 30)
+
 -- a stage with that answer, lent a page of 64 bytes
 abbrev pub stages_to : Given → StepAnswer → Event
 stages_to x = stage x.«record» x.free (replicate 64 0)
@@ -52,10 +57,10 @@ goes_through es = stages_to fired (Ok Staged) ∷ barrier (Ok Confirmed) ∷ com
 -- bytes 30 and 31 stay, each where the other events leave it
 pub record Instances : Type 0 where
   -- a record of 40 bytes is refused, which leaves nothing under way
-  pub refused : Leads 30 at_start noted (stages_to armed (Err NotErased) ∷ barrier (Err OutOfOrder) ∷ []) at_start noted
+  pub refused : Leads 30 at_start noted (stages_to armed spoiled ∷ barrier (Err OutOfOrder) ∷ []) at_start noted
   -- one of 20 bytes is committed before them, and the next is refused
-  pub before : Leads 30 at_start noted (goes_through (stages_to fired (Err NotErased) ∷ [])) behind noted_behind
+  pub before : Leads 30 at_start noted (goes_through (stages_to fired spoiled ∷ [])) behind noted_behind
   -- byte 50 is written later, and stays from then on
-  pub later : Leads 31 at_start noted (goes_through (foreign noted_twice ∷ stages_to fired (Err NotErased) ∷ []))
+  pub later : Leads 31 at_start noted (goes_through (foreign noted_twice ∷ stages_to fired spoiled ∷ []))
       behind noted_twice
-  pub from_then : Leads 50 behind noted_twice (stages_to armed (Err NotErased) ∷ []) behind noted_twice
+  pub from_then : Leads 50 behind noted_twice (stages_to armed spoiled ∷ []) behind noted_twice

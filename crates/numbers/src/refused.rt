@@ -6,13 +6,16 @@ use storage::geometry::Geometry;
 use waymaker_core::error::{DecodeError, Refusal};
 
 // Document 01's number of a refusal and the values that come with it; all 0 where nothing is refused. Here and in the
-// structs below C takes numbers in place of an enum: each has its refusal and its value side by side.
+// structs below C takes numbers in place of an enum: each has its refusal and its value side by side, and whether there
+// is a place beside the place.
 #[repr(C)]
 #[derive(Clone, Copy)]
 pub struct Refused {
     pub number: u8,
+    pub has_place: u8,
     pub needed: u32,
     pub available: u32,
+    pub place: u32,
 }
 
 #[repr(C)]
@@ -34,8 +37,10 @@ pub struct Settings {
 // values that no call gives.
 pub const NONE: Refused = Refused {
     number: 0,
+    has_place: 0,
     needed: 0,
     available: 0,
+    place: 0,
 };
 
 pub const NO_GEOMETRY: Geometry = Geometry {
@@ -48,10 +53,13 @@ impl From<Refusal> for Refused {
     ghost from_gives = { λ refusal refused. refused ≡ refused_by refusal };
 
     fn from(refusal: Refusal) -> Refused {
+        let place = refusal.place();
         Refused {
             number: refusal.number(),
+            has_place: u8::from(place.is_some()),
             needed: refusal.needed(),
             available: refusal.available(),
+            place: place.unwrap_or(0),
         }
     }
 }

@@ -5,11 +5,9 @@ use mathlib.Core.Bool.{Bool, true, false}
 use mathlib.Core.List.{List}
 use Prim.Native.Nat.{ℕ, ◌<◌}
 use lib.ListN.{drop}
-use Rattle.waymaker_core.specs.declared.error.DecodeError.{DecodeError}
-use Rattle.storage.specs.Media.{erased}
 use Rattle.place.specs.declared.Stand.{Stand}
 use Rattle.place.specs.declared.Stand.TheVariants.{Met, Passed, Over}
-use Rattle.place.specs.AtOffset.{clean_or, stands}
+use Rattle.place.specs.AtOffset.{stands}
 use Rattle.place.specs.Walk.{plain, walk}
 use Rattle.place.proofs.Cases.{settled_case, judged_case, stands_case}
 use Rattle.place.proofs.Walks.{plain_steady, each_walk}
@@ -31,15 +29,11 @@ unpaged (Met x) = true
 unpaged (Passed n) = true
 unpaged (Over e) = named (ending_by e)
 
-unpaged_or : (b : Bool) (e : DecodeError) → unpaged (clean_or e b) ≡ true
-unpaged_or true e = refl
-unpaged_or false e = refl
-
 unpaged_stands : (a : ℕ) (t : List ℕ) → unpaged (stands a t) ≡ true
 unpaged_stands a t =
     let P : Stand → Type 0 = λ x. unpaged x ≡ true in
-    stands_case a P t (λ e. unpaged_or (erased t) e) (λ e. refl)
-    (λ v _ _. judged_case a P _ (λ e. refl) (λ f. settled_case a P f _ (λ x. refl) refl (λ e. refl) refl))
+    stands_case a P t (λ _. refl) (λ i e. refl) (λ e. refl)
+    (λ v _ _. judged_case a P _ (λ e. refl) (λ f. settled_case a P f _ (λ x. refl) refl (λ e. refl) refl (λ i e. refl)))
 
 pub walk_named : (a : ℕ) (region : List ℕ) (o : ℕ) → 0 < a → named (ending_by (walk (plain a) region o).stop) ≡ true
 walk_named a region o h =

@@ -4,7 +4,7 @@ use progress::{Advanced, Progress};
 use std::fmt;
 use waymaker_core::error::Refusal;
 
-// A refusal's number, and the values that come with it: one more than test_steps prints.
+// A refusal's number, the values that come with it, one more than test_steps prints, and its place, if any.
 #[derive(Clone, Copy)]
 pub(crate) struct Refused(pub Refusal);
 
@@ -12,7 +12,11 @@ impl fmt::Display for Refused {
     fn fmt<W: fmt::Write>(&self, f: &mut fmt::Formatter<W>) -> fmt::Result {
         let refusal = self.0;
         write!(f, "refused {} {}", refusal.number(), refusal.needed())?;
-        write!(f, " {}", refusal.available())
+        write!(f, " {}", refusal.available())?;
+        match refusal.place() {
+            Some(place) => write!(f, ", place {place}"),
+            None => Ok(()),
+        }
     }
 }
 

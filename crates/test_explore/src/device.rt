@@ -81,10 +81,14 @@ impl Device {
         }
     }
 
-    // Whether so many bytes at a place are erased.
-    pub(crate) fn is_erased(&self, at: usize, len: usize) -> bool {
-        let mut part = self.region.iter().skip(at).take(len);
-        part.all(|byte| *byte == 255)
+    // The first of so many bytes at a place that is not erased.
+    pub(crate) fn first_written(&self, at: usize, len: usize) -> Option<usize> {
+        for (i, byte) in self.region.iter().enumerate() {
+            if at <= i && i - at < len && *byte != 255 {
+                return Some(i);
+            }
+        }
+        None
     }
 
     // Whether every byte that is not erased in the other is the same here.

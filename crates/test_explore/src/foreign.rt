@@ -26,9 +26,9 @@ impl Shared {
         self.theirs.write(at, written);
     }
 
-    // Stage refused with 18: it should be, and nothing is changed.
-    fn refused(&self, is_free: bool, before: &Shared) -> Came {
-        if is_free || self.device != before.device {
+    // Stage refused with 18 for a place: that of the first byte in the way, and nothing is changed.
+    fn refused(&self, place: u32, first: Option<usize>, before: &Shared) -> Came {
+        if first != Some(place as usize) || self.device != before.device {
             return Came::Differed;
         }
         Came::Refused
@@ -37,14 +37,17 @@ impl Shared {
     fn append(&mut self, item: Item) -> Came {
         let before = *self;
         let offset = self.journal.offset as usize;
-        let is_free = self.theirs.is_erased(offset, item.record_len(self.a));
+        let first = self.theirs.first_written(offset, item.record_len(self.a));
         let staged = self.device.stage(self.journal, item);
-        if staged.progress == Err(Refusal::NotErased) && staged.journal == self.journal {
-            return self.refused(is_free, &before);
+        match staged.progress {
+            Err(Refusal::NotErased { place, .. }) if staged.journal == self.journal => {
+                return self.refused(place, first, &before);
+            }
+            _ => {}
         }
         let kept = self.device.keeps(&self.theirs);
         match self.device.seal(staged.journal) {
-            Some(journal) if is_free && kept && self.device.keeps(&self.theirs) => {
+            Some(journal) if first.is_none() && kept && self.device.keeps(&self.theirs) => {
                 self.journal = journal;
                 Came::Opened
             }

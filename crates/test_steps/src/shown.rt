@@ -3,13 +3,18 @@ use recovery::next::{Ending, Stepped};
 use std::fmt;
 use waymaker_core::error::Refusal;
 
-// A refusal's number, and the bytes that it needed.
+// A refusal's number, the bytes that it needed, and its place, if any.
 #[derive(Clone, Copy)]
 pub(crate) struct Refused(pub Refusal);
 
 impl fmt::Display for Refused {
     fn fmt<W: fmt::Write>(&self, f: &mut fmt::Formatter<W>) -> fmt::Result {
-        write!(f, "refused {} {}", self.0.number(), self.0.needed())
+        let refusal = self.0;
+        write!(f, "refused {} {}", refusal.number(), refusal.needed())?;
+        match refusal.place() {
+            Some(place) => write!(f, ", place {place}"),
+            None => Ok(()),
+        }
     }
 }
 

@@ -73,10 +73,10 @@ fn read_unit(bytes: &[u8], end: u8) -> Result<(usize, &[u8]), &'static str> {
 }
 
 /// Prints a line for each record: offset, kind, sequence and payload length. Then how reading ended: where, with which
-/// refusal, and how many records of how many bytes were found; or that the settings are refused. Answers the highest
-/// sequence.
+/// refusal, and how many records of how many bytes were found; or that the settings are refused. Why reading was refused
+/// it says on standard error. Answers the highest sequence.
 fn list(image: &Image, page: &mut [u8]) -> u32 {
-    let (mut highest, mut records, mut bytes, mut refusal) = (0, 0, 0, 0);
+    let (mut highest, mut records, mut bytes, mut refusal) = (0, 0, 0, None);
     let mut recovery = match Geometry::new(image.region.len(), image.program_size, image.read_size) {
         Ok(geometry) => Recovery::new(geometry),
         Err(refused) => {
@@ -94,7 +94,7 @@ fn list(image: &Image, page: &mut [u8]) -> u32 {
                 bytes += found.len;
             }
             Err(refused) => {
-                refusal = refused.number();
+                refusal = Some(refused);
                 break;
             }
         }
@@ -106,7 +106,11 @@ fn list(image: &Image, page: &mut [u8]) -> u32 {
         // Only refused settings leave a recovery open, and these were not.
         Some(Ending::Incomplete { .. }) | None => "incomplete",
     };
-    println!("end,{ending},{},{refusal},{records},{bytes}", recovery.offset());
+    let number = refusal.map_or(0, Refusal::number);
+    println!("end,{ending},{},{number},{records},{bytes}", recovery.offset());
+    if let Some(refusal) = refusal {
+        eprintln!("recovery: {refusal}");
+    }
     highest
 }
 

@@ -8,8 +8,10 @@
 #[derive(Clone, Copy, Debug, Default, PartialEq, Eq)]
 pub struct Refused {
     pub number: u8,
+    pub has_place: u8,
     pub needed: u32,
     pub available: u32,
+    pub place: u32,
 }
 
 #[repr(C)]

@@ -25,10 +25,12 @@ pub enum Refusal {
     /// The checks hold, and payload or sequence do not fit the kind; at encode and the lengths a clock kind other than
     /// 1 and 2.
     Malformed,
-    /// The first two bytes or a check do not match.
-    IntegrityFailed,
-    /// An intact frame that no seal says was committed.
-    Unsealed,
+    /// The first two bytes or a check do not match; with a `place`, erased bytes, and behind them one that is not, the
+    /// first at this offset.
+    IntegrityFailed { place: Option<u32> },
+    /// An intact frame that no seal says was committed; with a `place`, one that would be skipped, being of kind 3, 4 or
+    /// 6, but for the bytes behind it, of which the first that is not erased is at this offset.
+    Unsealed { place: Option<u32> },
     /// Recovery ended elsewhere than at erased bytes.
     NotAppendable,
     /// An append is under way, and another one may not begin.
@@ -39,8 +41,8 @@ pub enum Refusal {
     OutOfOrder,
     /// Kind, sequence or free bytes make no record.
     NotARecord,
-    /// A byte where the record is to go is not 0xFF.
-    NotErased,
+    /// A byte where the record is to go is not 0xFF, the first at this offset.
+    NotErased { place: u32 },
 }
 
 impl Refusal {
@@ -50,6 +52,7 @@ impl Refusal {
     ///
     /// On any other number, which the library never answers.
     pub fn of(refused: ffi::Refused) -> Option<Self> {
+        let place = (refused.has_place != 0).then_some(refused.place);
         Some(match refused.number {
             0 => return None,
             1 => Self::Settings,
@@ -60,14 +63,14 @@ impl Refusal {
             6 => Self::UnknownKind,
             7 => Self::UnsupportedVersion,
             8 => Self::Malformed,
-            9 => Self::IntegrityFailed,
-            10 => Self::Unsealed,
+            9 => Self::IntegrityFailed { place },
+            10 => Self::Unsealed { place },
             11 => Self::NotAppendable,
             12 => Self::Interrupted,
             13 => Self::NoRoom { needed: refused.needed, available: refused.available },
             14 => Self::OutOfOrder,
             15 => Self::NotARecord,
-            18 => Self::NotErased,
+            18 => Self::NotErased { place: refused.place },
             other => panic!("the library answered refusal {other}, which there is not"),
         })
     }
@@ -91,14 +94,24 @@ impl Refusal {
             Self::UnknownKind => 6,
             Self::UnsupportedVersion => 7,
             Self::Malformed => 8,
-            Self::IntegrityFailed => 9,
-            Self::Unsealed => 10,
+            Self::IntegrityFailed { .. } => 9,
+            Self::Unsealed { .. } => 10,
             Self::NotAppendable => 11,
             Self::Interrupted => 12,
             Self::NoRoom { .. } => 13,
             Self::OutOfOrder => 14,
             Self::NotARecord => 15,
-            Self::NotErased => 18,
+            Self::NotErased { .. } => 18,
+        }
+    }
+
+    /// The offset of the first byte that is not 0xFF where all were to be, if that is why: from the region's start, in a
+    /// scan from its slice's.
+    pub const fn place(self) -> Option<u32> {
+        match self {
+            Self::IntegrityFailed { place } | Self::Unsealed { place } => place,
+            Self::NotErased { place } => Some(place),
+            _ => None,
         }
     }
 
@@ -116,14 +129,16 @@ impl Refusal {
             Self::UnknownKind => "a sealed record of a kind that is not known",
             Self::UnsupportedVersion => "a format version that is not read",
             Self::Malformed => "payload or sequence do not fit the kind",
-            Self::IntegrityFailed => "the first two bytes or a check do not match",
-            Self::Unsealed => "an intact frame that no seal says was committed",
+            Self::IntegrityFailed { place: None } => "the first two bytes or a check do not match",
+            Self::IntegrityFailed { .. } => "erased bytes, and behind them one that is not",
+            Self::Unsealed { place: None } => "an intact frame that no seal says was committed",
+            Self::Unsealed { .. } => "an intact frame that no seal says was committed, and no erased bytes behind it",
             Self::NotAppendable => "recovery ended elsewhere than at erased bytes",
             Self::Interrupted => "an append is under way, and another one may not begin",
             Self::NoRoom { .. } => "the record does not fit in what remains of the region",
             Self::OutOfOrder => "the step is not the one that follows",
             Self::NotARecord => "kind, sequence or free bytes make no record",
-            Self::NotErased => "a byte where the record is to go is not 0xFF",
+            Self::NotErased { .. } => "a byte where the record is to go is not 0xFF",
         }
     }
 }
@@ -134,7 +149,10 @@ impl fmt::Display for Refusal {
         match self {
             Self::PageTooSmall { needed } => write!(f, " ({needed} bytes needed)"),
             Self::NoRoom { needed, available } => write!(f, " ({needed} bytes needed, {available} available)"),
-            _ => Ok(()),
+            _ => match self.place() {
+                Some(place) => write!(f, " (byte {place} is not 0xFF)"),
+                None => Ok(()),
+            },
         }
     }
 }

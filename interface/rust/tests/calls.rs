@@ -134,8 +134,9 @@ fn stage_refuses_where_a_byte_is_not_erased() {
     journal.payload_barrier(&region).unwrap();
     journal.commit(&mut region).unwrap();
     let (journal_before, region_before, page_before) = (journal, region, page);
-    assert_eq!(journal.stage(fired, &mut region, &mut page), Err(Refusal::NotErased));
-    assert_eq!(journal.stage(fired, &mut region, &mut page[..19]), Err(Refusal::NotErased));
+    let refused = Err(Refusal::NotErased { place: 39 });
+    assert_eq!(journal.stage(fired, &mut region, &mut page), refused);
+    assert_eq!(journal.stage(fired, &mut region, &mut page[..19]), refused);
     assert_eq!((journal, region, page), (journal_before, region_before, page_before));
 }
 
@@ -144,12 +145,12 @@ fn refusals_have_their_names_and_numbers() {
     let mut out = [0; 19];
     assert_eq!(encode(RecordRef::TimerFired { seq: 7 }, 4, &mut out), Err(Refusal::LengthOutOfBounds));
     assert_eq!(encode(RecordRef::TimerFired { seq: 7 }, 3, &mut out), Err(Refusal::Settings));
-    assert_eq!(decode(&out), Err(Refusal::IntegrityFailed));
+    assert_eq!(decode(&out), Err(Refusal::IntegrityFailed { place: None }));
     assert_eq!(decode(&out[..11]), Err(Refusal::Truncated));
     let given = Given { record: ffi::Record { kind: 10, ..Default::default() }, free: b"" };
     assert_eq!(encoded_len(given, 4), Err(Refusal::NotARecord));
     for number in (1..=15).chain([18]) {
-        let refused = ffi::Refused { number, needed: 0, available: 0 };
+        let refused = ffi::Refused { number, ..Default::default() };
         assert_eq!(Refusal::of(refused).unwrap().number(), number);
     }
 }
@@ -202,19 +203,57 @@ fn endings_are_told_apart() {
     let geometry = Geometry::new(20, 4, 1).unwrap();
     let mut region = [0; 20];
     let mut recovery = Recovery::new(geometry);
-    assert_eq!(recovery.next(&region, &mut [0; 20]), Some(Err(Refusal::IntegrityFailed)));
+    assert_eq!(recovery.next(&region, &mut [0; 20]), Some(Err(Refusal::IntegrityFailed { place: None })));
     assert_eq!(recovery.ending(), Some(Ending::Damaged { at: 0 }));
 
     encode(RecordRef::RunFailed { error: b"" }, 4, &mut region).unwrap();
     region[19] = 0xFF;
     let mut recovery = Recovery::new(geometry);
-    assert_eq!(recovery.next(&region, &mut [0; 20]), Some(Err(Refusal::Unsealed)));
+    assert_eq!(recovery.next(&region, &mut [0; 20]), Some(Err(Refusal::Unsealed { place: None })));
     assert_eq!(recovery.ending(), Some(Ending::Unsealed { at: 0 }));
     assert_eq!(Journal::open(4, 1, &region, &mut [0; 20]), Err(Refusal::NotAppendable));
 
     let mut recovery = Recovery::new(geometry);
     assert_eq!(recovery.next(&region[..19], &mut [0; 20]), Some(Err(Refusal::WrongDevice)));
     assert_eq!(recovery.ending(), Some(Ending::Incomplete { at: 0 }));
+}
+
+/// The first refusal of a recovery over the region, through a page that takes a tail in chunks; a scan's is the same.
+fn refusal(region: &[u8; 64]) -> Option<Refusal> {
+    let mut recovery = Recovery::new(Geometry::new(64, 4, 1).unwrap());
+    let (mut scan, mut page) = (Scan::new(4), [0; 21]);
+    loop {
+        let of_recovery = recovery.next(region, &mut page).map(|found| found.map(|found| found.offset));
+        let of_scan = scan.next(region).map(|found| found.map(|found| found.offset));
+        assert_eq!(of_recovery, of_scan);
+        if !matches!(of_scan, Some(Ok(_))) {
+            return of_scan.and_then(Result::err);
+        }
+    }
+}
+
+#[test]
+fn a_refusal_says_which_byte_is_not_erased() {
+    // A record that is skipped, 20 bytes long, and erased bytes behind it.
+    let mut region = [0xFF; 64];
+    encode(RecordRef::TimerFired { seq: 7 }, 4, &mut region).unwrap();
+    region[16..20].fill(0xFF);
+    assert_eq!(refusal(&region), None);
+    region[59] = 0xFE;
+    region[62] = 0;
+    let tail = Refusal::IntegrityFailed { place: Some(59) };
+    assert_eq!(refusal(&region), Some(tail));
+    assert_eq!((tail.number(), tail.place()), (9, Some(59)));
+    assert_eq!(tail.to_string(), "refusal 9: erased bytes, and behind them one that is not (byte 59 is not 0xFF)");
+    // Among the first twelve it spoils the header, and the refusal has no place.
+    region[31] = 0xFE;
+    assert_eq!(refusal(&region), Some(Refusal::IntegrityFailed { place: None }));
+    // In the slot it keeps the record from being skipped. Of kind 7 none is.
+    region[18] = 0xFE;
+    assert_eq!(refusal(&region), Some(Refusal::Unsealed { place: Some(18) }));
+    encode(RecordRef::RunFailed { error: b"" }, 4, &mut region).unwrap();
+    region[18] = 0xFE;
+    assert_eq!(refusal(&region), Some(Refusal::Unsealed { place: None }));
 }
 
 #[test]

@@ -202,7 +202,7 @@ fn layouts_are_those_of_c() {
         return;
     }
     let rust = layout! {
-        Refused as "refused": number needed available;
+        Refused as "refused": number has_place needed available place;
         Record as "record": kind seq workflow_kind workflow_version activity input_len input_crc clock_kind deadline
             armed_at gate version;
         Part as "part": place len;

@@ -1,0 +1,2 @@
+-- The theorems on places in refusals.
+pub mod Before

@@ -1,0 +1,10 @@
+// What a place in a refusal is, and that nothing else came of it: two theorems about recovery, scan and stage.
+#![tactic(auto)]
+
+ghost use Rattle.places.specs.Before.{Theorem};
+
+// Does nothing: its promise is that but for the places all answers are those of before, so that the crate is proved only
+// if this is.
+pub fn nothing_else_changed()
+    ensures { Theorem }
+{}
