@@ -3,7 +3,7 @@
 -- Assumes nothing.
 use Rattle.std.specs.Prelude.{Ok, Some, None, Option}
 use mathlib.Core.Path.{◌≡◌, refl, sym, ap, ap₂, ◌∙◌}
-use mathlib.Core.Bool.{Bool, true, false, not, ◌&&◌, and-eq-true_iff}
+use mathlib.Core.Bool.{true, false, not, ◌&&◌, and-eq-true_iff}
 use mathlib.Core.List.{List, [], ◌∷◌, ◌++◌, append_assoc}
 use Prim.Native.Nat.{ℕ, ◌+◌, ◌-◌, ◌≤◌, ◌<◌}
 use native.Mathlib.Omega.{arith}
@@ -11,7 +11,6 @@ use lib.Dec.{ltb, eqb}
 use lib.ListN.{length, get_or, take, drop, length-append, take-append-drop}
 use lib.Seq.{take-append-le, drop-append-le, take_at, drop_at, length-take-le, take-take, drop-drop}
 use borrow.Author.Tests.{le-ltb, ltb-false, not-false, eqb-true, ne_eqb}
-use Rattle.waymaker_core.specs.declared.error.DecodeError.{DecodeError}
 use Rattle.waymaker_core.specs.declared.«record».Record.{Record}
 use Rattle.waymaker_core.proofs.Choice.{cond_case}
 use Rattle.storage.specs.Media.{first_programmed, erased}

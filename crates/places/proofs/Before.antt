@@ -1,8 +1,8 @@
 -- Nothing else has changed: without their places recovery, scan and stage answer what they did before.
 -- Assumes nothing.
 use Rattle.std.specs.Prelude.{Ok, Err, None, Some, Option}
-use mathlib.Core.Path.{◌≡◌, refl, sym, ap, ap₂, subst, fun_ext, ◌∙◌}
-use mathlib.Core.Bool.{Bool, true, false, cond, not, ◌&&◌, and-true}
+use mathlib.Core.Path.{◌≡◌, refl, sym, ap, ◌∙◌}
+use mathlib.Core.Bool.{Bool, true, false, cond, not, ◌&&◌}
 use mathlib.Core.List.{List, [], ◌∷◌}
 use Prim.Native.Nat.{ℕ, zero, suc, ◌-◌, ◌<◌}
 use borrow.Author.Tests.{eqb-true}

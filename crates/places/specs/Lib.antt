@@ -1,2 +1,3 @@
 -- The theorems on places in refusals.
 pub mod Before
+pub mod First
