@@ -1,9 +1,9 @@
 """Deliberate mistakes: each is the reader of reader.py with one rule bent. The first line of a class says what it does
-wrong; its name, in small letters with hyphens, is the fault's.
+wrong; its name, in small letters with hyphens, is the fault's. The last of them bend a place, which no listing shows.
 """
 import re
 
-from reader import Announced, Reader, erased
+from reader import ERASED, Announced, Reader, erased
 
 
 def crc16_ccitt_false(data):
@@ -667,10 +667,111 @@ class NoLastLineFeed(Reader):
         return super().listing(image).rstrip('\n')
 
 
+# The place in a refusal.
+
+
+class Misplaced(Reader):
+    """the place in a refusal is wrong, and the listing is not"""
+
+
+class NoPlaceInTail(Misplaced):
+    """a spoilt tail has no place"""
+    def place_in_tail(self, at):
+        return None
+
+
+class NoPlaceBehindFrame(Misplaced):
+    """a record that would be skipped has no place"""
+    def place_behind_frame(self, at):
+        return None
+
+
+class PlaceIsLast(Misplaced):
+    """the place is the last such byte's"""
+    def first(self, at, start, end):
+        return next((i for i in reversed(range(start, end)) if at.t[i] != ERASED), None)
+
+
+class PlaceFromRecord(Misplaced):
+    """the place counts from the offset at which reading ended"""
+    def place(self, region, a):
+        _, _, o, _ = self.walk(region, a)
+        place = super().place(region, a)
+        return None if place is None else place - o
+
+
+class PlaceFromImage(Misplaced):
+    """the place counts from the image's start"""
+    def place_in(self, image):
+        place = super().place_in(image)
+        return None if place is None else place + image.index(b'\n') + 1
+
+
+class PlaceBy4096(Misplaced):
+    """the place in a tail counts from the chunk of 4,096 bytes in which it lies"""
+    def place_in_tail(self, at):
+        place = super().place_in_tail(at)
+        return None if place is None else place % 4096
+
+
+class PlaceOfHeader(Misplaced):
+    """a damaged header has a place"""
+    def place_in_tail(self, at):
+        return self.first(at, 0, at.m)
+
+
+class PlaceOfShortTail(Misplaced):
+    """a tail below 12 bytes that is not erased has a place"""
+    def place_at(self, at, refusal):
+        return self.first(at, 0, at.m) if refusal == 4 and at.m < 12 else super().place_at(at, refusal)
+
+
+class PlaceOfKind2(Misplaced):
+    """an unsealed record of kind 2 has a place"""
+    def place_behind_frame(self, at):
+        return self.first(at, at.F, at.L) if at.kind in {2, 3, 4, 6} else None
+
+
+class PlaceOfEveryKind(Misplaced):
+    """an unsealed record of any kind has a place"""
+    def place_behind_frame(self, at):
+        return self.first(at, at.F, at.L)
+
+
+class PlaceInFrame(Misplaced):
+    """the place of a record is looked for from its start on"""
+    def place_behind_frame(self, at):
+        return self.first(at, 0, at.L) if at.kind in self.SKIPPED else None
+
+
+class PlaceInSlot(Misplaced):
+    """the place of a record is looked for in its slot alone"""
+    def place_behind_frame(self, at):
+        return self.first(at, at.B, at.L) if at.kind in self.SKIPPED else None
+
+
+class PlaceInPadding(Misplaced):
+    """the place of a record is looked for in its padding alone"""
+    def place_behind_frame(self, at):
+        return self.first(at, at.F, at.B) if at.kind in self.SKIPPED else None
+
+
 def name_of(mistake):
     """Kind2Skipped is kind-2-skipped."""
     return re.sub(r'(?<!^)(?=[A-Z])|(?<=[a-z])(?=[0-9])', '-', mistake.__name__).lower()
 
 
+def by_name(classes):
+    return {name_of(one): one for one in classes}
+
+
+def in_listings():
+    return by_name(one for one in Reader.__subclasses__() if one is not Misplaced)
+
+
+def in_places():
+    return by_name(Misplaced.__subclasses__())
+
+
 def all_mistakes():
-    return {name_of(one): one for one in Reader.__subclasses__()}
+    return {**in_listings(), **in_places()}

@@ -4,8 +4,10 @@
 //! mistake would answer. It is caught where the true sides agree and the copy does not.
 
 use crate::bytes;
-use crate::foreign::{NOT_ERASED, places, programmed, refusing};
+use crate::foreign::{is_not_erased, places, refused_at, refusing};
+use crate::misplaced;
 use crate::model::*;
+use crate::place::first_written;
 use crate::run::{self, Plan, agree};
 use std::ops::Range;
 
@@ -29,7 +31,7 @@ const fn rust(name: &'static str, wrong: fn(&dyn Side, &Case) -> Answer) -> Faul
     Fault { whose: Whose::Rust, name, wrong }
 }
 
-pub const FAULTS: [Fault; 33] = [
+pub const FAULTS: [Fault; 51] = [
     ours("the frame check has a bit flipped", frame_check_flipped),
     rust("the header check lacks its complement", no_complement),
     rust("a payload of 65,535 bytes is too long", longest_refused),
@@ -63,6 +65,24 @@ pub const FAULTS: [Fault; 33] = [
     ours("stage programs although it gives 18", programs_over),
     ours("find takes kinds without a sequence too", find_all_kinds),
     rust("counts wrap around at their limit", counts_wrap),
+    ours("recovery gives no place", misplaced::none_in_recovery),
+    ours("scan gives no place", misplaced::none_in_scan),
+    ours("a tail's place counts from its own start", misplaced::from_tail),
+    ours("a tail's place counts within the chunk", misplaced::within_chunk),
+    ours("a tail's place is its last", misplaced::last_in_tail),
+    ours("a 9 for a header has a place", misplaced::at_header),
+    ours("a 4 for a short tail has a place", misplaced::at_short_tail),
+    ours("an unsealed record's place counts from its start", misplaced::from_record),
+    ours("an unsealed record's place is its last", misplaced::last_behind_frame),
+    ours("an unsealed record's place lies in its frame", misplaced::in_frame),
+    ours("an unsealed record's place lies in its slot", misplaced::in_slot),
+    ours("a 10 of kind 2 has a place", misplaced::at_kind_2),
+    ours("a 10 of every kind has a place", misplaced::at_every_kind),
+    ours("a place counts from before what was skipped", misplaced::before_skipped),
+    ours("stage gives 18 without a place", misplaced::none_in_stage),
+    ours("stage's place counts from the append offset", misplaced::from_append_offset),
+    ours("stage's place is the last", misplaced::last_in_stage),
+    ours("open's 11 has a place", misplaced::at_opening),
 ];
 
 /// For each fault, the name and kind of the first case that caught it.
@@ -306,7 +326,7 @@ fn scan_length_first(side: &dyn Side, case: &Case) -> Answer {
 }
 
 /// Bends what each call of a list answered and left.
-fn bend_calls(side: &dyn Side, case: &Case, bend: impl Fn(&Call, &mut AfterCall)) -> Answer {
+pub fn bend_calls(side: &dyn Side, case: &Case, bend: impl Fn(&Call, &mut AfterCall)) -> Answer {
     let mut answer = side.answer(case);
     if let (Case::Append { calls, .. }, Answer::Append(after)) = (case, &mut answer) {
         calls.iter().zip(after).for_each(|(call, after)| bend(call, after));
@@ -356,7 +376,7 @@ fn available_off(side: &dyn Side, case: &Case) -> Answer {
 fn without_seeing(side: &dyn Side, case: &Case, unseen: fn(Range<usize>, usize) -> Range<usize>) -> Answer {
     let answer = side.answer(case);
     let (Case::Append { units, calls, .. }, Answer::Append(after)) = (case, &answer) else { return answer };
-    let Some(at) = after.iter().position(|after| after.refused == Some(NOT_ERASED)) else { return answer };
+    let Some(at) = after.iter().position(is_not_erased) else { return answer };
     let Some(record) = places(units.program, &calls[at], &after[at - 1]) else { return answer };
     let slot = record.end - usize::from(units.program);
     let unseen = unseen(record, slot);
@@ -393,8 +413,8 @@ fn room_later(side: &dyn Side, case: &Case) -> Answer {
     bend_calls(side, case, |call, after| {
         let (Call::Stage(..), Some(journal)) = (call, after.journal) else { return };
         let at_13 = after.refused.is_some_and(|refused| refused.number == 13);
-        if at_13 && programmed(after.region.get(journal.offset as usize..)) {
-            after.refused = Some(NOT_ERASED);
+        if at_13 && let Some(place) = first_written(&after.region, journal.offset as usize..after.region.len()) {
+            after.refused = Some(refused_at(place));
         }
     })
 }
@@ -404,7 +424,7 @@ fn page_sooner(side: &dyn Side, case: &Case) -> Answer {
     bend_calls(side, case, |call, after| {
         // A refused stage leaves the journal, so the record's places are those from before.
         let needed = places(units.program, call, after).map_or(0, |record| record.len());
-        if after.refused == Some(NOT_ERASED) && after.page.len() < needed {
+        if is_not_erased(after) && after.page.len() < needed {
             after.refused = Some(Refused::plain(5));
         }
     })
@@ -412,8 +432,8 @@ fn page_sooner(side: &dyn Side, case: &Case) -> Answer {
 
 fn looks_behind(side: &dyn Side, case: &Case) -> Answer {
     refusing(side, case, &|align, call, before, after| {
-        let Some(record) = places(align, call, before) else { return false };
-        after.refused.is_none() && programmed(before.region.get(record.end..record.end + 1))
+        let end = places(align, call, before)?.end;
+        if after.refused.is_none() { first_written(&before.region, end..end + 1) } else { None }
     })
 }
 
@@ -421,7 +441,7 @@ fn programs_over(side: &dyn Side, case: &Case) -> Answer {
     let Case::Append { units, .. } = case else { return side.answer(case) };
     let align = units.program;
     bend_calls(side, case, |call, after| {
-        let (Call::Stage(record, free), Some(NOT_ERASED)) = (call, after.refused) else { return };
+        let (Call::Stage(record, free), true) = (call, is_not_erased(after)) else { return };
         let Some(places) = places(align, call, after) else { return };
         let encode = Case::Encode { align, record: *record, free: free.clone(), out_len: places.len() };
         if let Answer::Encode { body_len: Ok(body), out, .. } = side.answer(&encode) {

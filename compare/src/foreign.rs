@@ -4,16 +4,19 @@
 use crate::bytes;
 use crate::generate::{self, expressible, fixed_len};
 use crate::model::*;
+use crate::place::first_written;
 use crate::rng::Rng;
 use crate::theirs::Theirs;
 use std::collections::HashMap;
 use std::ops::Range;
 
-/// Stage's refusal where its record is to take a byte that is not 0xFF. The Rust has none: it programs over that.
-pub const NOT_ERASED: Refused = Refused::plain(18);
+/// The number of stage's refusal where its record is to take a byte that is not 0xFF. The Rust has none: it programs
+/// over that.
+pub const NOT_ERASED: u8 = 18;
 
 /// A side that does not look before it stages, asked without the stages that document 02's d) has refused with 18. In
-/// place of their answers stands that refusal, and all as it was: a side that agrees refuses these and no others.
+/// place of their answers stands that refusal, with its place, and all as it was: a side that agrees refuses these and
+/// no others.
 pub struct Looking<'a>(pub &'a dyn Side);
 
 impl Side for Looking<'_> {
@@ -23,10 +26,10 @@ impl Side for Looking<'_> {
 }
 
 impl Looking<'_> {
-    /// Whether the call is a stage that the side takes, or refuses for a short page alone, and whose record is to take
-    /// a byte that is not 0xFF.
-    fn meets(&self, align: u16, call: &Call, before: &AfterCall, after: &AfterCall) -> bool {
-        let (Call::Stage(record, free), Some(places)) = (call, places(align, call, before)) else { return false };
+    /// The first byte that is not 0xFF of those that a record is to take, where the call is a stage that the side takes
+    /// or refuses for a short page alone.
+    fn meets(&self, align: u16, call: &Call, before: &AfterCall, after: &AfterCall) -> Option<u32> {
+        let (Call::Stage(record, free), Some(places)) = (call, places(align, call, before)) else { return None };
         let looks = match after.refused {
             None => true,
             // A record that cannot be encoded is refused with 5 too, and sooner.
@@ -36,13 +39,8 @@ impl Looking<'_> {
             }
             _ => false,
         };
-        looks && programmed(before.region.get(places))
+        if looks { first_written(&before.region, places) } else { None }
     }
-}
-
-/// Whether there are such bytes and one of them is not 0xFF.
-pub fn programmed(bytes: Option<&[u8]>) -> bool {
-    bytes.is_some_and(|bytes| bytes.iter().any(|byte| *byte != 0xFF))
 }
 
 /// The places that the record of a stage is to take; they may end past the region.
@@ -52,8 +50,9 @@ pub fn places(align: u16, call: &Call, before: &AfterCall) -> Option<Range<usize
     Some(start..start + bytes::record_len(fixed_len(record.kind) + free.len(), align))
 }
 
-/// Whether a call is to be refused with 18, by the program unit, the call, and what there was before and after it.
-pub type Refuses<'a> = &'a dyn Fn(u16, &Call, &AfterCall, &AfterCall) -> bool;
+/// The place in a call's refusal 18, none where it is not to have that one, by the program unit, the call, and what
+/// there was before and after it.
+pub type Refuses<'a> = &'a dyn Fn(u16, &Call, &AfterCall, &AfterCall) -> Option<u32>;
 
 /// The side's answer to a list without some of its calls; in their places stands refusal 18, and all as it was.
 pub fn refusing(side: &dyn Side, case: &Case, refuses: Refuses) -> Answer {
@@ -65,24 +64,34 @@ pub fn refusing(side: &dyn Side, case: &Case, refuses: Refuses) -> Answer {
             return answer;
         };
         // The first call is an opening.
-        let refused = |at: &usize| refuses(units.program, &calls[*at], &after[at - 1], &after[*at]);
-        if let Some(at) = (1..after.len()).find(refused) {
+        let place = |at: usize| Some((at, refuses(units.program, &calls[at], &after[at - 1], &after[at])?));
+        if let Some((at, place)) = (1..after.len()).find_map(place) {
             calls.remove(at);
-            left_out.push(at + left_out.len());
+            left_out.push((at + left_out.len(), place));
             continue;
         }
-        for at in left_out {
+        for (at, place) in left_out {
             let before = after[at - 1].clone();
-            after.insert(at, AfterCall { refused: Some(NOT_ERASED), committed: None, ..before });
+            after.insert(at, AfterCall { refused: Some(refused_at(place)), committed: None, ..before });
         }
         return answer;
     }
 }
 
+/// Refusal 18 for the byte at this place.
+pub fn refused_at(place: u32) -> Refused {
+    Refused { place: Some(place), ..Refused::plain(NOT_ERASED) }
+}
+
+/// Whether a call was refused with 18.
+pub fn is_not_erased(after: &AfterCall) -> bool {
+    after.refused.is_some_and(|refused| refused.number == NOT_ERASED)
+}
+
 /// How many calls of a list were refused with 18.
 pub fn not_erased(answer: &Answer) -> u64 {
     let Answer::Append(after) = answer else { return 0 };
-    after.iter().filter(|after| after.refused == Some(NOT_ERASED)).count() as u64
+    after.iter().filter(|after| is_not_erased(after)).count() as u64
 }
 
 /// Whether every byte of a stranger's that is not 0xFF, at the journal's offset or beyond, is after each later call as
@@ -181,6 +190,7 @@ mod tests {
 
         let answer = Looking(&Theirs).answer(&case);
         assert!(matches!(&answer, Answer::Append(after) if after.len() == 3 && after[2].region == after[1].region));
+        assert!(matches!(&answer, Answer::Append(after) if after[2].refused == Some(refused_at(16))));
         assert!(kept(&case, &answer));
         assert_eq!(not_erased(&answer), 1);
     }

@@ -32,7 +32,7 @@ fn usual(rng: &mut Rng) -> Case {
 }
 
 /// Units that the Rust accepts: r at most a. Small ones more often, since their regions are short.
-fn units(rng: &mut Rng) -> Units {
+pub fn units(rng: &mut Rng) -> Units {
     let log = if rng.one_in(3) { rng.below(9) } else { rng.below(5) };
     Units { program: 1 << log, read: 1 << rng.below(log + 1) }
 }

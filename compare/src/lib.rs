@@ -7,10 +7,13 @@ pub mod faults;
 pub mod fixed;
 pub mod foreign;
 pub mod generate;
+pub mod misplaced;
 pub mod model;
 #[cfg(feature = "ours")]
 pub mod ours;
+pub mod place;
 pub mod rng;
 pub mod run;
 pub mod shapes;
+pub mod spoiled;
 pub mod theirs;

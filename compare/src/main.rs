@@ -1,6 +1,7 @@
 //! compare: runs the journal and the Rust it was ported from on the same inputs.
 //!
-//!     compare [--cases N] [--seed S]   every short input and N random ones; status 1 if any answer differs
+//!     compare [--cases N] [--seed S]   every short input, N random ones and N / 10 spoiled ones; status 1 if any
+//!                                      answer differs
 //!     compare --short [--seed S]       some thousands, for slow runs under a checker of memory
 //!     compare --faults [--seed S]      deliberate mistakes on both sides; status 1 if one is not caught
 //!     compare --fixed FILE             writes the fixed list, from the oracle alone
@@ -74,6 +75,7 @@ mod both {
     use compare::faults::{self, FAULTS, Whose};
     use compare::foreign::Looking;
     use compare::ours::Ours;
+    use compare::place::Placed;
     use compare::run;
     use compare::theirs::Theirs;
 
@@ -82,22 +84,23 @@ mod both {
 barrier and commit; a barrier or commit after a stage that was refused with 12; N = 0; a read unit above
 the program unit or one that does not divide N; the payload of a frame of unknown kind. Stages that are
 refused with 18 are left out of what the Rust is asked: ours must refuse those that document 02's d) names
-and no others, and change nothing.";
+and no others, and change nothing. The place in a refusal is compared with a search of the bytes: the Rust
+has none.";
 
     pub fn compare(plan: Plan) -> ExitCode {
         let short = match plan.stride {
             1 => "every short input".to_string(),
             stride => format!("one short input in {stride}"),
         };
-        println!("{short} and {} random cases of seed {}", plan.random, plan.seed);
-        let tally = run::compare(&Ours, &Looking(&Theirs), plan);
+        println!("{short}, {} random cases of seed {} and {} spoiled ones", plan.random, plan.seed, plan.spoiled());
+        let tally = run::compare(&Ours, &Placed(&Looking(&Theirs)), plan);
         tally.print();
         println!("\n{NOT_COMPARED}");
-        if tally.total().1 == 0 { ExitCode::SUCCESS } else { ExitCode::FAILURE }
+        if tally.is_good() { ExitCode::SUCCESS } else { ExitCode::FAILURE }
     }
 
     pub fn faults(plan: Plan) -> ExitCode {
-        let caught = faults::run(&Ours, &Looking(&Theirs), plan);
+        let caught = faults::run(&Ours, &Placed(&Looking(&Theirs)), plan);
         for (fault, caught) in FAULTS.iter().zip(&caught) {
             let whose = if fault.whose == Whose::Ours { "ours" } else { "Rust" };
             let verdict = caught.as_ref().map_or("NOT CAUGHT".to_string(), |case| format!("caught ({case})"));

@@ -32,17 +32,19 @@ impl Record {
     }
 }
 
-/// Why a call declined. `needed` and `available` are 0 where the number has none.
+/// Why a call declined. `needed` and `available` are 0 where the number has none. `place` is the offset of the first
+/// byte that is not 0xFF where all were to be, for refusals that say so.
 #[derive(Clone, Copy, Debug, Default, PartialEq, Eq)]
 pub struct Refused {
     pub number: u8,
     pub needed: u32,
     pub available: u32,
+    pub place: Option<u32>,
 }
 
 impl Refused {
     pub const fn plain(number: u8) -> Self {
-        Self { number, needed: 0, available: 0 }
+        Self { number, needed: 0, available: 0, place: None }
     }
 }
 
@@ -80,6 +82,15 @@ pub enum Outcome {
     Found(Found),
     Ended,
     Refused(Refused),
+}
+
+impl Outcome {
+    pub fn refused(&self) -> Option<&Refused> {
+        match self {
+            Outcome::Refused(refused) => Some(refused),
+            _ => None,
+        }
+    }
 }
 
 /// How a recovery ended, by the numbers of the C header.

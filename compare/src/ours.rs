@@ -34,7 +34,7 @@ impl Side for Ours {
 }
 
 fn refused(refusal: Refusal) -> Refused {
-    let plain = Refused::plain(refusal.number());
+    let plain = Refused { place: refusal.place(), ..Refused::plain(refusal.number()) };
     match refusal {
         Refusal::PageTooSmall { needed } => Refused { needed, ..plain },
         Refusal::NoRoom { needed, available } => Refused { needed, available, ..plain },

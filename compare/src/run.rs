@@ -1,17 +1,24 @@
 //! Asks both sides the same and tallies where they part.
 
-use crate::exhaustive;
 use crate::foreign::{self, kept, not_erased};
 use crate::model::*;
+use crate::place::{self, PLACED};
+use crate::{exhaustive, spoiled};
 use std::panic::resume_unwind;
 use std::thread;
 
-/// Which cases: every `stride`-th of the short inputs, then so many random ones of a seed.
+/// Which cases: every `stride`-th of the short inputs, so many random ones of a seed, and a tenth as many spoiled ones.
 #[derive(Clone, Copy)]
 pub struct Plan {
     pub seed: u64,
     pub random: u64,
     pub stride: u64,
+}
+
+impl Plan {
+    pub fn spoiled(&self) -> u64 {
+        self.random / 10
+    }
 }
 
 /// Differences kept of each kind: those with the shortest inputs.
@@ -25,6 +32,8 @@ pub struct Tally {
     pub outside: u64,
     /// Calls that are refused with 18, without which the Rust is asked.
     pub left_out: u64,
+    /// Places in our refusals, by the order of `PLACED`.
+    pub places: [u64; PLACED.len()],
     shown: [Vec<(usize, String)>; KINDS.len()],
 }
 
@@ -37,6 +46,7 @@ impl Tally {
         let kind = case.kind();
         self.cases[kind] += 1;
         self.left_out += not_erased(&ours);
+        add(&mut self.places, place::count(case, &ours));
         if agree(case, &ours, &theirs) {
             return;
         }
@@ -61,12 +71,11 @@ impl Tally {
     }
 
     fn join(mut self, other: Tally) -> Tally {
-        for kind in 0..KINDS.len() {
-            self.cases[kind] += other.cases[kind];
-            self.differences[kind] += other.differences[kind];
-        }
+        add(&mut self.cases, other.cases);
+        add(&mut self.differences, other.differences);
         self.outside += other.outside;
         self.left_out += other.left_out;
+        add(&mut self.places, other.places);
         for (mine, more) in self.shown.iter_mut().zip(other.shown) {
             mine.extend(more);
         }
@@ -76,6 +85,11 @@ impl Tally {
 
     pub fn total(&self) -> (u64, u64) {
         (self.cases.iter().sum(), self.differences.iter().sum())
+    }
+
+    /// Whether all agree, and a place of every refusal that has one was among it.
+    pub fn is_good(&self) -> bool {
+        self.total().1 == 0 && !self.places.contains(&0)
     }
 
     pub fn print(&self) {
@@ -89,10 +103,19 @@ impl Tally {
             println!("outside the Rust's domain, not compared: {}", self.outside);
         }
         println!("refused with 18, left out of what the Rust is asked: {}", self.left_out);
+        println!("places in refusals, compared with a search of the bytes: {}", self.places.iter().sum::<u64>());
+        for ((kind, number), count) in PLACED.iter().zip(self.places) {
+            let none = if count == 0 { ": NOT compared" } else { "" };
+            println!("{:<22} {count:>12}{none}", format!("  {}, {number}", KINDS[*kind]));
+        }
         for (_, text) in self.shown.iter().flatten() {
             println!("\ndifference: {text}");
         }
     }
+}
+
+fn add<const N: usize>(counts: &mut [u64; N], more: [u64; N]) {
+    counts.iter_mut().zip(more).for_each(|(count, more)| *count += more);
 }
 
 /// Whether our answer is the Rust's, and what strangers wrote stays in it.
@@ -112,6 +135,9 @@ pub fn each(plan: Plan, worker: u64, workers: u64, take: &mut dyn FnMut(&dyn Fn(
     });
     for number in (worker..plan.random).step_by(workers as usize) {
         take(&|| format!("case {number} of seed {}", plan.seed), foreign::case(plan.seed, number).clone());
+    }
+    for number in (worker..plan.spoiled()).step_by(workers as usize) {
+        take(&|| format!("spoiled case {number} of seed {}", plan.seed), spoiled::case(plan.seed, number).clone());
     }
 }
 

@@ -148,7 +148,7 @@ fn any_frame(rng: &mut Rng) -> Vec<u8> {
 }
 
 /// A good frame of one of these kinds, mostly short.
-fn frame_of(rng: &mut Rng, kinds: &[u8]) -> Vec<u8> {
+pub fn frame_of(rng: &mut Rng, kinds: &[u8]) -> Vec<u8> {
     let kind = rng.pick(kinds);
     let seq = match kind {
         1 | 7 | 8 => 0,

@@ -64,7 +64,7 @@ fn recovery_error<E>(error: RecoveryError<E>) -> Refused {
         RecoveryError::Storage(_) => DEVICE_ERROR,
         RecoveryError::Decode(error) => decode_error(error),
         RecoveryError::WrongDevice => WRONG_DEVICE,
-        RecoveryError::PageTooSmall { needed } => Refused { number: 3, needed: needed as u32, available: 0 },
+        RecoveryError::PageTooSmall { needed } => Refused { needed: needed as u32, ..Refused::plain(3) },
     }
 }
 
@@ -73,7 +73,7 @@ fn append_error<E>(error: AppendError<E>) -> Refused {
         AppendError::Storage(_) => DEVICE_ERROR,
         AppendError::Encode(_) => Refused::plain(5),
         AppendError::WrongDevice => WRONG_DEVICE,
-        AppendError::NoRoom { needed, available } => Refused { number: 13, needed, available },
+        AppendError::NoRoom { needed, available } => Refused { needed, available, ..Refused::plain(13) },
         AppendError::Interrupted => Refused::plain(12),
     }
 }

@@ -1,16 +1,18 @@
-//! make: writes the conformance images, their listings and the index.
+//! make: writes the conformance images, their listings, the index and the places.
 //!
-//!     make            writes conformance/images and conformance/index
+//!     make            writes conformance/images, conformance/index and conformance/places
 //!     make --check    status 1 if what stands there is not what would be written
 //!     make --frames   prints the three records of docs/FORMAT.md
 //!
-//! The listings come from the program that LISTING names, or else from crates/listing/out/listing.
+//! The listings come from the program that LISTING names, or else from crates/listing/out/listing. The places, which no
+//! listing shows, are the library's.
 
 mod frames;
 mod laid;
 mod set;
 mod topics;
 
+use jardolento::{Geometry, Recovery, PAGE_BYTES};
 use set::Image;
 use std::collections::BTreeMap;
 use std::error::Error;
@@ -19,6 +21,9 @@ use std::io::Write;
 use std::path::{Path, PathBuf};
 use std::process::{Command, ExitCode, Stdio};
 use std::{env, fs, thread};
+
+/// Files that stand beside the folder of images: the index and the places.
+const BESIDE: usize = 2;
 
 type Files = BTreeMap<PathBuf, Vec<u8>>;
 type Fallible<T> = Result<T, Box<dyn Error>>;
@@ -54,13 +59,19 @@ fn files() -> Fallible<Files> {
         env::var_os("LISTING").unwrap_or_else(|| home().join("../crates/listing/out/listing").into_os_string());
     let mut files = Files::new();
     let mut index = String::new();
+    let mut places = Vec::new();
     for image in topics::all().0 {
         let listed = list(&listing, &image).map_err(|error| format!("{}: {error}", image.name))?;
         index.push_str(&format!("{}: {}\n", image.name, image.tries));
+        if let Some(place) = place(&image.bytes).filter(|_| !listed.starts_with(b"refused")) {
+            places.push(format!("{},{place}\n", image.name));
+        }
         files.insert(format!("images/{}.txt", image.name).into(), listed);
         files.insert(format!("images/{}.img", image.name).into(), image.bytes);
     }
     files.insert("index".into(), index.into_bytes());
+    places.sort();
+    files.insert("places".into(), places.concat().into_bytes());
     Ok(files)
 }
 
@@ -83,6 +94,21 @@ fn list(listing: &OsString, image: &Image) -> Fallible<Vec<u8>> {
     Ok(output.stdout)
 }
 
+/// The place in the refusal with which a recovery of an image ends.
+fn place(image: &[u8]) -> Option<u32> {
+    let end = image.iter().position(|byte| *byte == b'\n')?;
+    let (program, read) = std::str::from_utf8(&image[..end]).ok()?.split_once(',')?;
+    let region = &image[end + 1..];
+    let geometry = Geometry::new(region.len(), program.parse().ok()?, read.parse().ok()?).ok()?;
+    let mut recovery = Recovery::new(geometry);
+    let mut page = vec![0; PAGE_BYTES];
+    loop {
+        if let Err(refusal) = recovery.next(region, &mut page)? {
+            return refusal.place();
+        }
+    }
+}
+
 fn write(files: &Files) -> Fallible<()> {
     let images = home().join("images");
     if images.exists() {
@@ -93,8 +119,8 @@ fn write(files: &Files) -> Fallible<()> {
         fs::write(home().join(place), bytes)?;
     }
     println!(
-        "{} images, {} bytes with listings and index",
-        files.len() / 2,
+        "{} images, {} bytes with listings, index and places",
+        (files.len() - BESIDE) / 2,
         files.values().map(Vec::len).sum::<usize>()
     );
     Ok(())
@@ -102,15 +128,16 @@ fn write(files: &Files) -> Fallible<()> {
 
 fn check(files: &Files) -> Fallible<()> {
     let there = fs::read_dir(home().join("images"))?.count();
-    if there != files.len() - 1 {
-        return Err(format!("{there} files stand in images, and {} would be written", files.len() - 1).into());
+    let made = files.len() - BESIDE;
+    if there != made {
+        return Err(format!("{there} files stand in images, and {made} would be written").into());
     }
     for (place, bytes) in files {
         if fs::read(home().join(place)).ok().as_ref() != Some(bytes) {
             return Err(format!("{} is not what would be written", place.display()).into());
         }
     }
-    println!("{} images are as they would be made", files.len() / 2);
+    println!("{} images are as they would be made", made / 2);
     Ok(())
 }
 
