@@ -57,6 +57,7 @@ static int is_refused(const char *call, struct jardolento_refused refused)
 {
     if (refused.number == 0)
         return 0;
+    fflush(stdout);
     fprintf(stderr, "%s: refusal %u: %s", call, (unsigned)refused.number, reason(refused));
     if (refused.number == JARDOLENTO_PAGE_TOO_SMALL)
         fprintf(stderr, " (%" PRIu32 " bytes needed)", refused.needed);
@@ -150,7 +151,6 @@ static uint32_t list(const struct image *image, uint8_t *page)
     }
     printf("end,%s,%" PRIu32 ",%u,%zu,%zu\n", ending_name(step.state.ending), step.state.offset,
            (unsigned)step.refused.number, records, bytes);
-    fflush(stdout);
     is_refused("recovery", step.refused);
     return highest;
 }
