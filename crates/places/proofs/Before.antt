@@ -1,10 +1,10 @@
 -- Nothing else has changed: without their places recovery, scan and stage answer what they did before.
 -- Assumes nothing.
 use Rattle.std.specs.Prelude.{Ok, Err, None, Some, Option}
-use mathlib.Core.Path.{◌≡◌, refl, sym, ap, ◌∙◌}
+use mathlib.Core.Path.{◌≡◌, refl, sym, ap, ap₂, ◌∙◌}
 use mathlib.Core.Bool.{Bool, true, false, cond, not, ◌&&◌}
 use mathlib.Core.List.{List, [], ◌∷◌}
-use Prim.Native.Nat.{ℕ, zero, suc, ◌-◌, ◌<◌}
+use Prim.Native.Nat.{ℕ, zero, suc, ◌-◌}
 use borrow.Author.Tests.{eqb-true}
 use native.Mathlib.Omega.{arith}
 use lib.Dec.{eqb, ltb}
@@ -15,6 +15,7 @@ use Rattle.waymaker_core.specs.declared.error.Refusal.{Refusal}
 use Rattle.waymaker_core.specs.declared.error.Refusal.TheVariants.{Settings, WrongDevice, PageTooSmall, Decode, NotErased, NotAppendable, Interrupted, NoRoom, OutOfOrder, NotARecord}
 use Rattle.waymaker_core.specs.declared.«record».Record.{Record}
 use Rattle.waymaker_core.specs.Refusals.{numbered}
+use Rattle.waymaker_core.proofs.Choice.{cond_case}
 use Rattle.storage.specs.Settings.{allowed, region_length, program_unit}
 use Rattle.storage.specs.Media.{programmed_from, first_programmed, is_all, erased, read_at}
 use Rattle.storage.proofs.ErasedBytes.{first_erased, part_erased}
@@ -28,16 +29,15 @@ use Rattle.place.specs.declared.Stop.{Stop}
 use Rattle.place.specs.declared.Stop.TheVariants.{End, Bad, BadTail, NoSeal, NoSkip, TooSmall}
 use Rattle.place.specs.declared.Stand.{Stand}
 use Rattle.place.specs.declared.Stand.TheVariants.{Met, Passed, Over}
-use Rattle.place.specs.AtOffset.{redeliverable, under_seal, skip_or, settled, judged_by, judged, Shape, Short, Blank, BadHeader, Overlong, Whole, shape_of, short_stop, tail_stop, stand_by, stands}
+use Rattle.place.specs.AtOffset.{redeliverable, under_seal, skip_or, settled, judged_by, judged, Shape, Short, Blank, BadHeader, Overlong, Whole, shape_of, short_stop, tail_stop, stand_by, stands, end_answer}
 use Rattle.place.specs.Walk.{Look, Waypoint, finds, skips, Walk, onward, walk_over, walk, Step, meets, stops, step_along, first_step, step_offsets}
 use Rattle.place.proofs.Judgements.{to_end_lem}
 use Rattle.look.specs.Reads.{Read, capacity_of, wanted, seen_by, paged}
 use Rattle.recovery.specs.declared.next.Recovery.{Recovery}
 use Rattle.recovery.specs.declared.next.Stepped.{Stepped}
-use Rattle.recovery.specs.Next.{state_at, arrived, walk_from, page_after, is_open, before, Done, with_page, step_in, step}
+use Rattle.recovery.specs.Next.{state_at, ending_by, arrived, walk_from, page_after, is_open, before, with_page, step_in, step}
 use Rattle.recovery.specs.declared.next.Ending.TheVariants.{Incomplete}
 use Rattle.scan.specs.declared.Scan.{Scan}
-use Rattle.scan.specs.declared.ScanStepped.{ScanStepped}
 use Rattle.scan.specs.Scan.{scanned_by, scanned, scan_look, answer_at, step_of}
 use Rattle.journal.specs.declared.Journal.{Journal}
 use Rattle.progress.specs.Phases.{unit_of, StepLeft, keeps, on_device}
@@ -48,6 +48,14 @@ use Rattle.places.specs.Before.{clean_or, was_settled, was_judged, stood_by, was
 through : {A B : Type 0} (f : A → B) (b : Bool) {x y : A} {v w : B} → f x ≡ v → f y ≡ w → f (cond b x y) ≡ cond b v w
 through f true p q = p
 through f false p q = q
+
+-- the same of what stands behind three tests
+three : {A : Type 0} (f : A → A) (b c d : Bool) (p q r x y : A) → f p ≡ p → f q ≡ q → f r ≡ r → f x ≡ y
+    → f (cond b p (cond c q (cond d r x))) ≡ cond b p (cond c q (cond d r y))
+three f true c d p q r x y h i j k = h
+three f false true d p q r x y h i j k = i
+three f false false true p q r x y h i j k = j
+three f false false false p q r x y h i j k = k
 
 -- # What stands somewhere
 
@@ -169,25 +177,26 @@ bare_first w = bare_along w.points (stops w.at w.stop)
 abbrev stepped_without : Stepped → Stepped
 stepped_without x = record { state = x.state; answer = answer_without x.answer }
 
+-- what is answered at an end, and the ending
+bare_end : (A : Type 0) (o : ℕ) (e : Stop) → answer_without (end_answer {A = A} o e) ≡ end_answer o (bare e)
+bare_end A o End = refl
+bare_end A o (Bad x) = refl
+bare_end A o (BadTail i) = refl
+bare_end A o NoSeal = refl
+bare_end A o (NoSkip i) = refl
+bare_end A o (TooSmall n) = refl
+
+bare_ending : (e : Stop) → ending_by e ≡ ending_by (bare e)
+bare_ending End = refl
+bare_ending (Bad x) = refl
+bare_ending (BadTail i) = refl
+bare_ending NoSeal = refl
+bare_ending (NoSkip i) = refl
+bare_ending (TooSmall n) = refl
+
 bare_arrived : (s : Recovery) (z : Step) → stepped_without (arrived s z) ≡ arrived s (bare_step z)
 bare_arrived s (meets o x) = refl
-bare_arrived s (stops o e) = go e where
-  go : (e : Stop) → stepped_without (arrived s (stops o e)) ≡ arrived s (stops o (bare e))
-  go End = refl
-  go (Bad x) = refl
-  go (BadTail i) = refl
-  go NoSeal = refl
-  go (NoSkip i) = refl
-  go (TooSmall n) = refl
-
--- behind three tests, whose answers have no place
-three : (s : Recovery) (page : List ℕ) (t : Recovery) (b c d : Bool) (x y : Done) → done_without x ≡ y
-    → done_without (cond b (with_page page (record { state = s; answer = Ok None })) (cond c (with_page page (record { state = s; answer = Err Settings })) (cond d (with_page page (record { state = t; answer = Err WrongDevice })) x)))
-    ≡ cond b (with_page page (record { state = s; answer = Ok None })) (cond c (with_page page (record { state = s; answer = Err Settings })) (cond d (with_page page (record { state = t; answer = Err WrongDevice })) y))
-three s page t true c d x y h = refl
-three s page t false true d x y h = refl
-three s page t false false true x y h = refl
-three s page t false false false x y h = h
+bare_arrived s (stops o e) = ap₂ (λ d y. record { state = state_at s o d; answer = y }) (bare_ending e) (bare_end _ o e)
 
 module _ (s : Recovery) (region page : List ℕ) where
   abbrev cap : ℕ
@@ -205,62 +214,51 @@ module _ (s : Recovery) (region page : List ℕ) where
   recovery_same : done_without (step s region page) ≡ recovered s region page
   unfolding step before walk_from
   recovery_same =
-      three s page (state_at s s.offset Incomplete) (not (is_open s.ending)) (not (allowed s.geometry.bytes s.geometry.program_size s.geometry.read_size))
-      (not (eqb (length region) s.geometry.bytes)) (step_in s region page (walk now region s.offset)) (step_in s region page (walk was region s.offset))
+      three done_without (not (is_open s.ending)) (not (allowed s.geometry.bytes s.geometry.program_size s.geometry.read_size)) (not (eqb (length region) s.geometry.bytes))
+      (with_page page (record { state = s; answer = Ok None })) (with_page page (record { state = s; answer = Err Settings }))
+      (with_page page (record { state = state_at s s.offset Incomplete; answer = Err WrongDevice }))
+      (step_in s region page (walk now region s.offset)) (step_in s region page (walk was region s.offset)) refl refl refl
       (bare_stepped (walk now region s.offset)
       ∙ ap (step_in s region page) (bare_all now was (bare_paged s.geometry.program_size s.geometry.read_size cap) region s.offset))
 
 bare_answered : (a : ℕ) (z : Step) → scan_without (answer_at a z) ≡ answer_at a (bare_step z)
 bare_answered a (meets o x) = refl
-bare_answered a (stops o e) = go e where
-  go : (e : Stop) → scan_without (answer_at a (stops o e)) ≡ answer_at a (stops o (bare e))
-  go End = refl
-  go (Bad x) = refl
-  go (BadTail i) = refl
-  go NoSeal = refl
-  go (NoSkip i) = refl
-  go (TooSmall n) = refl
-
-scan_three : (s : Scan) (b c d : Bool) (x y : ScanStepped) → scan_without x ≡ y
-    → scan_without (cond b (record { state = s; answer = Ok None }) (cond c (record { state = s; answer = Err Settings }) (cond d (record { state = s; answer = Ok None }) x)))
-    ≡ cond b (record { state = s; answer = Ok None }) (cond c (record { state = s; answer = Err Settings }) (cond d (record { state = s; answer = Ok None }) y))
-scan_three s true c d x y h = refl
-scan_three s false true d x y h = refl
-scan_three s false false true x y h = refl
-scan_three s false false false x y h = h
+bare_answered a (stops o e) = ap (λ y. record { state = record { align = a; offset = o; stopped = true }; answer = y }) (bare_end _ o e)
 
 scan_same : (s : Scan) (j : List ℕ) → scan_without (step_of s j) ≡ scan_stepped s j
 unfolding step_of
 scan_same s j =
     let w : Walk = walk (scan_look s.align) j s.offset in
-    scan_three s s.stopped (not (region_length (length j) && program_unit s.align)) (ltb (length j) s.offset)
-    (answer_at s.align (first_step w)) (answer_at s.align (first_step (walk (scan_looked s.align) j s.offset)))
+    three scan_without s.stopped (not (region_length (length j) && program_unit s.align)) (ltb (length j) s.offset)
+    (record { state = s; answer = Ok None }) (record { state = s; answer = Err Settings }) (record { state = s; answer = Ok None })
+    (answer_at s.align (first_step w)) (answer_at s.align (first_step (walk (scan_looked s.align) j s.offset))) refl refl refl
     (bare_answered s.align (first_step w)
     ∙ ap (answer_at s.align) (bare_first w ∙ ap first_step (bare_all (scan_look s.align) (scan_looked s.align) (bare_scanned s.align) j s.offset)))
 
+-- a refusal without a place is that refusal
+by_place : (P : Refusal → Type 0) → ((i : ℕ) → P (NotErased Tail i)) → ((i : ℕ) → P (NotErased Behind i)) → ((i : ℕ) → P (NotErased Ahead i))
+    → ((e : Refusal) → without e ≡ e → P e) → (e : Refusal) → P e
+by_place P tail behind ahead plain (NotErased Tail i) = tail i
+by_place P tail behind ahead plain (NotErased Behind i) = behind i
+by_place P tail behind ahead plain (NotErased Ahead i) = ahead i
+by_place P tail behind ahead plain Settings = plain _ refl
+by_place P tail behind ahead plain WrongDevice = plain _ refl
+by_place P tail behind ahead plain (PageTooSmall n) = plain _ refl
+by_place P tail behind ahead plain (Decode e) = plain _ refl
+by_place P tail behind ahead plain NotAppendable = plain _ refl
+by_place P tail behind ahead plain Interrupted = plain _ refl
+by_place P tail behind ahead plain (NoRoom n m) = plain _ refl
+by_place P tail behind ahead plain OutOfOrder = plain _ refl
+by_place P tail behind ahead plain NotARecord = plain _ refl
+
+-- stage's refusal for a record that is none, or for its length, has none
 as_staged_without : (e : Refusal) → without (as_staged e) ≡ as_staged e
 unfolding as_staged
-as_staged_without e = go (eqb (numbered e).number 15) refl where
-  not_15 : (n : ℕ) → n < 15 → eqb n 15 ≡ true → ⊥
-  not_15 n h f = omega (arith, eqb-true n 15 f)
-
-  kept : (x : Refusal) → eqb (numbered x).number 15 ≡ true → without x ≡ x
-  kept (NotErased Tail i) f = absurd (not_15 9 (omega arith) f)
-  kept (NotErased Behind i) f = absurd (not_15 10 (omega arith) f)
-  kept (NotErased Ahead i) f = absurd (omega (arith, eqb-true 18 15 f))
-  kept Settings f = refl
-  kept WrongDevice f = refl
-  kept (PageTooSmall n) f = refl
-  kept (Decode y) f = refl
-  kept NotAppendable f = refl
-  kept Interrupted f = refl
-  kept (NoRoom n m) f = refl
-  kept OutOfOrder f = refl
-  kept NotARecord f = refl
-
-  go : (b : Bool) → eqb (numbered e).number 15 ≡ b → without (cond b e (Decode LengthOutOfBounds)) ≡ cond b e (Decode LengthOutOfBounds)
-  go true f = kept e f
-  go false f = refl
+as_staged_without e = cond_case (λ y. without y ≡ y) (eqb (numbered e).number 15) (λ t. kept (eqb-true (numbered e).number 15 t)) (λ _. refl) where
+  kept : (numbered e).number ≡ 15 → without e ≡ e
+  kept =
+      by_place (λ y. (numbered y).number ≡ 15 → without y ≡ y) (λ i h. absurd (omega (arith, h))) (λ i h. absurd (omega (arith, h))) (λ i h. absurd (omega (arith, h)))
+      (λ y plain _. plain) e
 
 module _ (j : Journal) (x : Record) (free region page : List ℕ) where
   abbrev kept : Refusal → StepLeft
@@ -298,34 +296,16 @@ module _ (j : Journal) (x : Record) (free region page : List ℕ) where
   stage_same : left_without (staged j x free region page) ≡ was_staged j x free region page
   unfolding staged on_device
   stage_same =
-      go (not (allowed j.geometry.bytes (unit_of j) j.geometry.read_size)) (not (eqb (length region) j.geometry.bytes)) (not (eqb j.phase 0))
-    where
-      z : Size
-      z = payload_len x (length free)
-
-      go : (b c d : Bool) → left_without (cond b (kept Settings) (cond c (kept WrongDevice) (cond d (kept Interrupted) (staged_with j x free region page z))))
-          ≡ cond b (kept Settings) (cond c (kept WrongDevice) (cond d (kept Interrupted) (was_staged_with j x free region page z)))
-      go true c d = refl
-      go false true d = refl
-      go false false true = refl
-      go false false false = size_same z
+      let z : Size = payload_len x (length free) in
+      three left_without (not (allowed j.geometry.bytes (unit_of j) j.geometry.read_size)) (not (eqb (length region) j.geometry.bytes)) (not (eqb j.phase 0))
+      (kept Settings) (kept WrongDevice) (kept Interrupted) (staged_with j x free region page z) (was_staged_with j x free region page z) refl refl refl (size_same z)
 
 -- # Numbers
 
-by_refusal : (f : Refusal → ℕ) → ((i : ℕ) → f (Decode IntegrityFailed) ≡ f (NotErased Tail i)) → ((i : ℕ) → f (without (NotErased Behind i)) ≡ f (NotErased Behind i))
-    → ((i : ℕ) → f (NotErased Ahead 0) ≡ f (NotErased Ahead i)) → (e : Refusal) → f (without e) ≡ f e
-by_refusal f p q r (NotErased Tail i) = p i
-by_refusal f p q r (NotErased Behind i) = q i
-by_refusal f p q r (NotErased Ahead i) = r i
-by_refusal f p q r Settings = refl
-by_refusal f p q r WrongDevice = refl
-by_refusal f p q r (PageTooSmall n) = refl
-by_refusal f p q r (Decode e) = refl
-by_refusal f p q r NotAppendable = refl
-by_refusal f p q r Interrupted = refl
-by_refusal f p q r (NoRoom n m) = refl
-by_refusal f p q r OutOfOrder = refl
-by_refusal f p q r NotARecord = refl
+-- a number that is the same without a place
+same_number : (f : Refusal → ℕ) → ((i : ℕ) → f (without (NotErased Tail i)) ≡ f (NotErased Tail i)) → ((i : ℕ) → f (without (NotErased Behind i)) ≡ f (NotErased Behind i))
+    → ((i : ℕ) → f (without (NotErased Ahead i)) ≡ f (NotErased Ahead i)) → (e : Refusal) → f (without e) ≡ f e
+same_number f tail behind ahead = by_place (λ e. f (without e) ≡ f e) tail behind ahead (λ e plain. ap f plain)
 
 pub nothing_else_changed : Theorem
 nothing_else_changed =
@@ -333,7 +313,7 @@ nothing_else_changed =
       recovery = recovery_same;
       scan = scan_same;
       stage = stage_same;
-      number = by_refusal (λ e. (numbered e).number) (λ i. refl) (λ i. refl) (λ i. refl);
-      needed = by_refusal (λ e. (numbered e).needed) (λ i. refl) (λ i. refl) (λ i. refl);
-      available = by_refusal (λ e. (numbered e).available) (λ i. refl) (λ i. refl) (λ i. refl);
+      number = same_number (λ e. (numbered e).number) (λ i. refl) (λ i. refl) (λ i. refl);
+      needed = same_number (λ e. (numbered e).needed) (λ i. refl) (λ i. refl) (λ i. refl);
+      available = same_number (λ e. (numbered e).available) (λ i. refl) (λ i. refl) (λ i. refl);
     }

@@ -9,9 +9,8 @@ use Rattle.waymaker_core.specs.declared.error.DecodeError.TheVariants.{Truncated
 use Rattle.waymaker_core.specs.declared.error.DecodeError.TheVariants.{Unsealed}
 use Rattle.waymaker_core.specs.declared.error.Span.TheVariants.{Tail, Behind, Ahead}
 use Rattle.waymaker_core.specs.declared.error.Refusal.{Refusal}
-use Rattle.waymaker_core.specs.declared.error.Refusal.TheVariants.{Settings, WrongDevice, PageTooSmall, Decode}
-use Rattle.waymaker_core.specs.declared.error.Refusal.TheVariants.{NotErased, NotAppendable, Interrupted, NoRoom}
-use Rattle.waymaker_core.specs.declared.error.Refusal.TheVariants.{OutOfOrder, NotARecord}
+use Rattle.waymaker_core.specs.declared.error.Refusal.TheVariants.{Settings, Decode}
+use Rattle.waymaker_core.specs.declared.error.Refusal.TheVariants.{NotErased, Interrupted, NoRoom}
 use Rattle.waymaker_core.specs.declared.«record».Record.{Record}
 use Rattle.waymaker_core.specs.Refusals.{numbered}
 use Rattle.storage.specs.Settings.{region_length, program_unit}
@@ -115,15 +114,7 @@ abbrev pub without : Refusal → Refusal
 without (NotErased Tail i) = Decode IntegrityFailed
 without (NotErased Behind i) = Decode Unsealed
 without (NotErased Ahead i) = NotErased Ahead 0
-without Settings = Settings
-without WrongDevice = WrongDevice
-without (PageTooSmall n) = PageTooSmall n
-without (Decode e) = Decode e
-without NotAppendable = NotAppendable
-without Interrupted = Interrupted
-without (NoRoom n m) = NoRoom n m
-without OutOfOrder = OutOfOrder
-without NotARecord = NotARecord
+without e = e
 
 -- the same of an answer
 abbrev pub answer_without : {A : Type 0} → Result A Refusal → Result A Refusal

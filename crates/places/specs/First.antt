@@ -4,9 +4,7 @@
 use Rattle.std.specs.Prelude.{◌≡◌, true, List, ℕ, ◌+◌, ◌≤◌, ◌<◌, length, drop, get_or, Ok, Err, Result}
 use Rattle.waymaker_core.specs.declared.error.Span.TheVariants.{Tail, Behind, Ahead}
 use Rattle.waymaker_core.specs.declared.error.Refusal.{Refusal}
-use Rattle.waymaker_core.specs.declared.error.Refusal.TheVariants.{Settings, WrongDevice, PageTooSmall, Decode}
-use Rattle.waymaker_core.specs.declared.error.Refusal.TheVariants.{NotErased, NotAppendable, Interrupted, NoRoom}
-use Rattle.waymaker_core.specs.declared.error.Refusal.TheVariants.{OutOfOrder, NotARecord}
+use Rattle.waymaker_core.specs.declared.error.Refusal.TheVariants.{NotErased}
 use Rattle.waymaker_core.specs.declared.«record».Record.{Record}
 use Rattle.frame.specs.Lengths.{record_len, payload_len}
 use Rattle.decode.specs.declared.Frame.{Frame as FrameOf}
@@ -46,15 +44,7 @@ abbrev pub PlaceIn : (ℕ → Type 0) → (ℕ → Type 0) → (ℕ → Type 0) 
 PlaceIn tail behind ahead (NotErased Tail i) = tail i
 PlaceIn tail behind ahead (NotErased Behind i) = behind i
 PlaceIn tail behind ahead (NotErased Ahead i) = ahead i
-PlaceIn tail behind ahead Settings = Unit {0}
-PlaceIn tail behind ahead WrongDevice = Unit {0}
-PlaceIn tail behind ahead (PageTooSmall n) = Unit {0}
-PlaceIn tail behind ahead (Decode e) = Unit {0}
-PlaceIn tail behind ahead NotAppendable = Unit {0}
-PlaceIn tail behind ahead Interrupted = Unit {0}
-PlaceIn tail behind ahead (NoRoom n m) = Unit {0}
-PlaceIn tail behind ahead OutOfOrder = Unit {0}
-PlaceIn tail behind ahead NotARecord = Unit {0}
+PlaceIn tail behind ahead e = Unit {0}
 
 -- the same of an answer
 abbrev pub Placed : {A : Type 0} → (Refusal → Type 0) → Result A Refusal → Type 0
