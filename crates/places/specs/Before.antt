@@ -1,7 +1,7 @@
 -- What recovery, scan and stage were before a refusal carried a place, and the theorem that nothing else has changed:
 -- without their places all answers are those, and state, region and page are the same.
--- a is the program unit, r the read unit, cap the page's capacity, t the bytes from an offset to the region's end, s the
--- bytes of a record, f its frame; j is a journal or, in scan, the slice.
+-- a is the program unit, r the read unit, cap the page's capacity, t the bytes from an offset to the region's end, s
+-- the bytes of a record, f its frame; j is a journal or, in scan, the slice.
 use Rattle.std.specs.Prelude.{◌≡◌, Bool, cond, not, ◌&&◌, List, ℕ, ◌-◌, ltb, eqb, length, take, drop}
 use Rattle.std.specs.Prelude.{Ok, Err, None, Result}
 use Rattle.waymaker_core.specs.declared.error.DecodeError.{DecodeError}

@@ -4,8 +4,8 @@
 ghost use Rattle.places.specs.Before.{Theorem as NothingElseChanged};
 ghost use Rattle.places.specs.First.{Theorem as PlacesAreFirst};
 
-// Does nothing: its promise is that but for the places all answers are those of before, so that the crate is proved only
-// if this is.
+// Does nothing: its promise is that but for the places all answers are those of before, so that the crate is proved
+// only if this is.
 pub fn nothing_else_changed()
     ensures { NothingElseChanged }
 {}
