@@ -50,28 +50,29 @@ impl Refusal {
     ///
     /// # Panics
     ///
-    /// On any other number, which the library never answers.
+    /// On any other number, and on one that has a place where it should have none or none where it should: the library
+    /// never answers so.
     pub fn of(refused: ffi::Refused) -> Option<Self> {
         let place = (refused.has_place != 0).then_some(refused.place);
-        Some(match refused.number {
-            0 => return None,
-            1 => Self::Settings,
-            2 => Self::WrongDevice,
-            3 => Self::PageTooSmall { needed: refused.needed },
-            4 => Self::Truncated,
-            5 => Self::LengthOutOfBounds,
-            6 => Self::UnknownKind,
-            7 => Self::UnsupportedVersion,
-            8 => Self::Malformed,
-            9 => Self::IntegrityFailed { place },
-            10 => Self::Unsealed { place },
-            11 => Self::NotAppendable,
-            12 => Self::Interrupted,
-            13 => Self::NoRoom { needed: refused.needed, available: refused.available },
-            14 => Self::OutOfOrder,
-            15 => Self::NotARecord,
-            18 => Self::NotErased { place: refused.place },
-            other => panic!("the library answered refusal {other}, which there is not"),
+        Some(match (refused.number, place) {
+            (0, None) => return None,
+            (1, None) => Self::Settings,
+            (2, None) => Self::WrongDevice,
+            (3, None) => Self::PageTooSmall { needed: refused.needed },
+            (4, None) => Self::Truncated,
+            (5, None) => Self::LengthOutOfBounds,
+            (6, None) => Self::UnknownKind,
+            (7, None) => Self::UnsupportedVersion,
+            (8, None) => Self::Malformed,
+            (9, place) => Self::IntegrityFailed { place },
+            (10, place) => Self::Unsealed { place },
+            (11, None) => Self::NotAppendable,
+            (12, None) => Self::Interrupted,
+            (13, None) => Self::NoRoom { needed: refused.needed, available: refused.available },
+            (14, None) => Self::OutOfOrder,
+            (15, None) => Self::NotARecord,
+            (18, Some(place)) => Self::NotErased { place },
+            (other, place) => panic!("the library answered refusal {other} with place {place:?}, which there is not"),
         })
     }
 

@@ -150,7 +150,7 @@ fn refusals_have_their_names_and_numbers() {
     let given = Given { record: ffi::Record { kind: 10, ..Default::default() }, free: b"" };
     assert_eq!(encoded_len(given, 4), Err(Refusal::NotARecord));
     for number in (1..=15).chain([18]) {
-        let refused = ffi::Refused { number, ..Default::default() };
+        let refused = ffi::Refused { number, has_place: u8::from(number == 18), ..Default::default() };
         assert_eq!(Refusal::of(refused).unwrap().number(), number);
     }
 }

@@ -144,7 +144,7 @@ fn upper(value: impl Debug) -> String {
 #[test]
 fn numbers_are_the_headers() {
     let refusals = (1..=15).chain([18]).map(|number| {
-        let refused = ffi::Refused { number, ..Default::default() };
+        let refused = ffi::Refused { number, has_place: u8::from(number == 18), ..Default::default() };
         (upper(Refusal::of(refused).unwrap()), number)
     });
     let kinds = (1..=9).map(|kind| {
