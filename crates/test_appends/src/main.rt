@@ -6,9 +6,10 @@ mod shown;
 
 use append::step::{commit, payload_barrier};
 use journal::Journal;
-use shown::{Refused, Step};
+use shown::Step;
 use staging::step::stage;
 use std::io;
+use testing::refusals::Refused;
 use waymaker_core::id::EffectSeq;
 use waymaker_core::record::{Record, RecordKind};
 use waymaker_core::timer::ClockKind;

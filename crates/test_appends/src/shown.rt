@@ -1,24 +1,8 @@
-// Refusals, counts and a step's answer as the program prints them.
+// Counts and a step's answer as the program prints them.
 use counts::WriteAmplification;
 use progress::{Advanced, Progress};
 use std::fmt;
-use waymaker_core::error::Refusal;
-
-// A refusal's number, the values that come with it, one more than test_steps prints, and its place, if any.
-#[derive(Clone, Copy)]
-pub(crate) struct Refused(pub Refusal);
-
-impl fmt::Display for Refused {
-    fn fmt<W: fmt::Write>(&self, f: &mut fmt::Formatter<W>) -> fmt::Result {
-        let refusal = self.0;
-        write!(f, "refused {} {}", refusal.number(), refusal.needed())?;
-        write!(f, " {}", refusal.available())?;
-        match refusal.place() {
-            Some(place) => write!(f, ", place {place}"),
-            None => Ok(()),
-        }
-    }
-}
+use testing::refusals::Refused;
 
 #[derive(Clone, Copy)]
 struct Counts(WriteAmplification);

@@ -11,9 +11,10 @@ use find::find;
 use frame::lengths::encoded_len_for;
 use journal::Journal;
 use recovery::next::Recovery;
-use shown::{Refused, Step};
+use shown::Step;
 use std::io;
 use storage::geometry::Geometry;
+use testing::refusals::Refused;
 use waymaker_core::id::EffectSeq;
 use waymaker_core::record::{Record, RecordKind};
 

@@ -1,22 +1,7 @@
-// Refusals and steps as the program prints them.
+// Steps as the program prints them.
 use recovery::next::{Ending, Stepped};
 use std::fmt;
-use waymaker_core::error::Refusal;
-
-// A refusal's number, the bytes that it needed, and its place, if any.
-#[derive(Clone, Copy)]
-pub(crate) struct Refused(pub Refusal);
-
-impl fmt::Display for Refused {
-    fn fmt<W: fmt::Write>(&self, f: &mut fmt::Formatter<W>) -> fmt::Result {
-        let refusal = self.0;
-        write!(f, "refused {} {}", refusal.number(), refusal.needed())?;
-        match refusal.place() {
-            Some(place) => write!(f, ", place {place}"),
-            None => Ok(()),
-        }
-    }
-}
+use testing::refusals::Refused;
 
 // No Display: a struct around the ending would have this match in its fmt, and be no plainer than a name.
 fn name(ending: Ending) -> &'static str {
