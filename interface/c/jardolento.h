@@ -71,7 +71,8 @@ enum {
     JARDOLENTO_NO_ROOM = 13,            /* the record takes `needed` bytes, and `available` remain */
     JARDOLENTO_OUT_OF_ORDER = 14,       /* the step is not the one that follows */
     JARDOLENTO_NOT_A_RECORD = 15,       /* kind, sequence or free bytes make no record */
-    JARDOLENTO_NOT_ERASED = 18          /* a byte where the record is to go is not 0xFF */
+    JARDOLENTO_NOT_ERASED = 18,         /* a byte where the record is to go is not 0xFF */
+    JARDOLENTO_COUNT_TOO_LARGE = 24     /* a count to go on from is above 2 to the 62nd */
 };
 
 /* The kinds of records. */
@@ -201,13 +202,15 @@ struct jardolento_scan_step {
 
 /* What was written; each count stops at 4,294,967,295. */
 struct jardolento_written {
-    uint32_t payload_bytes;
-    uint32_t programmed_bytes;
-    uint32_t program_operations;
-    uint32_t barriers;
+    uint64_t payload_bytes;
+    uint64_t programmed_bytes;
+    uint64_t program_operations;
+    uint64_t barriers;
+    uint64_t uncommitted_appends; /* staged and not committed: one while a record is under way */
 };
 
-/* Where the next record goes, what is under way, and what was written since the opening. */
+/* Where the next record goes, what is under way, and what was written: since the opening, and before it as far as the
+ * opening was handed that. */
 struct jardolento_journal {
     struct jardolento_geometry geometry;
     uint32_t offset;
@@ -225,7 +228,7 @@ struct jardolento_opening {
 };
 
 /* Where it is refused, the journal is the one that was given. written is what this record alone wrote; only commit
- * says it. */
+ * says it, with no append left uncommitted. */
 struct jardolento_advanced {
     struct jardolento_journal journal;
     struct jardolento_refused refused;
@@ -296,6 +299,13 @@ struct jardolento_finding jardolento_find(uint32_t seq, size_t program_size, siz
 struct jardolento_opening jardolento_open(size_t program_size, size_t read_size, const uint8_t *region,
                                           size_t region_len, uint8_t *page, size_t page_len);
 
+/* The same, and the counts go on from these, so that they count for the box's whole life: hand over those of the last
+ * journal, kept where the box likes. Each is 4,611,686,018,427,387,904 at most, 2 to the 62nd, or it is refused before
+ * anything is read: then no count stops before the next opening. */
+struct jardolento_opening jardolento_open_with(struct jardolento_written written, size_t program_size,
+                                               size_t read_size, const uint8_t *region, size_t region_len,
+                                               uint8_t *page, size_t page_len);
+
 /* The steps of an append: stage programs the body and leaves the whole record in the page; the payload barrier
  * confirms it; commit programs the seal. Stage looks first: where a byte that the record is to take, slot included, is
  * not 0xFF, it refuses, so that what something else has written there stays. After stage and after commit the caller
@@ -309,7 +319,7 @@ struct jardolento_advanced jardolento_commit(struct jardolento_journal journal, 
 
 /* Two counts together, and the bytes that were programmed beside the payload. */
 struct jardolento_written jardolento_written_plus(struct jardolento_written x, struct jardolento_written y);
-uint32_t jardolento_overhead_bytes(struct jardolento_written written);
+uint64_t jardolento_overhead_bytes(struct jardolento_written written);
 
 #ifdef __cplusplus
 }

@@ -27,7 +27,10 @@ use Rattle.look.specs.Reads.{capacity_of, laid, tail_reads, further, wanted, mad
 use Rattle.recovery.specs.Next.{walk_from, page_after, before, step, fresh}
 use Rattle.finish.specs.Finish.{to_end, founds}
 use Rattle.find.specs.Find.{carries, kept, latest, find_in}
-use Rattle.journal.specs.Opening.{ready, opened}
+use Rattle.counts.specs.declared.WriteAmplification.{WriteAmplification}
+use Rattle.counts.specs.Counts.{counts, unwritten}
+use Rattle.journal.specs.declared.Journal.{Journal}
+use Rattle.journal.specs.Opening.{idle, opened, opened_with}
 use Rattle.progress.specs.Phases.{StepLeft, on_device, is_next, confirmed, under_way}
 use Rattle.staging.specs.Stage.{as_staged, begins, staged}
 use Rattle.append.specs.Append.{barred, after_commit, committed}
@@ -75,11 +78,22 @@ at_scan a o j = step_refusal (step_of (record { align = a; offset = o; stopped =
 abbrev at_open : ℕ → ℕ → List ℕ → ℕ → Numbered
 at_open a r region page = refusal_of (opened a r region (replicate page 0)).opening
 
+-- the same of an opening from counts, of which `edge` is the largest that it takes
+abbrev edge : ℕ
+edge = 4611686018427387904
+
+abbrev at_open_with : WriteAmplification → ℕ → ℕ → List ℕ → ℕ → Numbered
+at_open_with w a r region page = refusal_of (opened_with w a r region (replicate page 0)).opening
+
 abbrev at_find : ℕ → ℕ → List ℕ → ℕ → Numbered
 at_find a r region page = refusal_of (find_in 7 a r region (replicate page 0)).finding
 
 abbrev at_append : StepLeft → Numbered
 at_append x = refusal_of x.out.progress
+
+-- a ready journal that has written nothing
+abbrev ready : Geometry → ℕ → Journal
+ready g o = idle g o unwritten
 
 -- stage the first record over a blank region of n bytes, with a = 4
 abbrev begun : ℕ → StepLeft
@@ -147,6 +161,14 @@ table =
     ∷ gives (at_open 3 1 whole 20) 1 0 0
     ∷ gives (at_open 4 16 (blank 40) 15) 3 16 0
     ∷ gives (at_open 4 1 (loose 7) 20) 11 0 0
+    ∷ gives (at_open_with (counts edge edge edge edge edge) 4 1 whole 20) 0 0 0
+    ∷ gives (at_open_with (counts (edge + 1) 0 0 0 0) 4 1 whole 20) 24 0 0
+    ∷ gives (at_open_with (counts 0 (edge + 1) 0 0 0) 4 1 whole 20) 24 0 0
+    ∷ gives (at_open_with (counts 0 0 (edge + 1) 0 0) 4 1 whole 20) 24 0 0
+    ∷ gives (at_open_with (counts 0 0 0 (edge + 1) 0) 4 1 whole 20) 24 0 0
+    ∷ gives (at_open_with (counts 0 0 0 0 (edge + 1)) 4 1 whole 20) 24 0 0
+    ∷ gives (at_open_with (counts 0 0 0 0 (edge + 1)) 3 1 whole 20) 1 0 0
+    ∷ gives (at_open_with (counts 0 0 0 0 (edge + 1)) 4 16 (blank 40) 15) 24 0 0
     ∷ gives (at_find 4 1 whole 20) 0 0 0
     ∷ gives (at_find 4 1 [] 0) 0 0 0
     ∷ gives (at_find 3 1 whole 20) 1 0 0
@@ -180,5 +202,5 @@ wished (marks x n i) = record { number = n; needed = 0; available = 0; place = S
 
 -- the whole table, computed
 numbers : map given table ≡ map wished table
-unfolding table one_of known run_scoped has_free seq_fits free_fits widths numbers_len clock_known clock_fits plain_record bit_step bit_steps octet octets fcs header_check frame_check unit_up_to program_unit read_unit region_length allowed settings round_up programmed_from first_programmed erased ands programmed laid_over bytes_le value_le field_bytes fields body_len record_len well_given payload_fits payload_len with_unit encoded_len_for encoded_len numbers_of payload_of checked_header header_of covered_of check_of frame_of padding_of seal_byte seal_from body_of record_of sealed_from seal_holds overwritten encoded_bytes encoded length_fits record_with well_formed body_at header_at frame_len_of frame_under decoded settled judged shape_of stands walk_over walk scanned step_of capacity_of laid tail_reads further wanted made seen_by paged reads_at reads_all walk_from page_after before step to_end founds carries kept latest find_in opened on_device as_staged under_way begins staged is_next confirmed barred after_commit committed
+unfolding table one_of known run_scoped has_free seq_fits free_fits widths numbers_len clock_known clock_fits plain_record bit_step bit_steps octet octets fcs header_check frame_check unit_up_to program_unit read_unit region_length allowed settings round_up programmed_from first_programmed erased ands programmed laid_over bytes_le value_le field_bytes fields body_len record_len well_given payload_fits payload_len with_unit encoded_len_for encoded_len numbers_of payload_of checked_header header_of covered_of check_of frame_of padding_of seal_byte seal_from body_of record_of sealed_from seal_holds overwritten encoded_bytes encoded length_fits record_with well_formed body_at header_at frame_len_of frame_under decoded settled judged shape_of stands walk_over walk scanned step_of capacity_of laid tail_reads further wanted made seen_by paged reads_at reads_all walk_from page_after before step to_end founds carries kept latest find_in opened_with on_device as_staged under_way begins staged is_next confirmed barred after_commit committed
 numbers = refl

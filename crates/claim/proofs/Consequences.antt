@@ -12,8 +12,9 @@ use Rattle.storage.specs.Media.{erased}
 use Rattle.recovery.specs.Next.{fresh}
 use Rattle.finish.specs.Finish.{founds}
 use Rattle.roundtrip.specs.Typed.{AllBytes}
+use Rattle.counts.specs.declared.WriteAmplification.{WriteAmplification}
 use Rattle.journal.specs.declared.Journal.{Journal}
-use Rattle.journal.specs.Opening.{OpenLeft, opened}
+use Rattle.journal.specs.Opening.{OpenLeft, opened_with}
 use Rattle.journal.proofs.Openings.{opens_by_lem}
 use Rattle.claim.specs.Saying.{Given, Said, given, all_given}
 use Rattle.claim.specs.Events.{commit, Event, call, unrefused, done, under, State, after_event, run, start, Large}
@@ -42,10 +43,11 @@ module _ (n a r : ℕ) (es : List Event) (claim : Claim n a r es) where
       (claim.finds_book (λ _. page) (λ _. large)).only _ (reads_exactly region bytes (units n a r) ok (λ _. page) (λ _. large) page large).has
 
   -- an opening, by its definition, stands before erased bytes
-  pub opened_stands : (page : List ℕ) (j : Journal) → (opened a r region page).opening ≡ Ok j → erased (drop j.offset region) ≡ true
-  opened_stands page j e =
-      let l : OpenLeft = opened a r region page in
-      claim.opens_erased page l.page j (opens_by_lem (ap (λ x. record { opening = x; page = l.page }) (sym e)))
+  pub opened_stands : (w : WriteAmplification) (page : List ℕ) (j : Journal) → (opened_with w a r region page).opening ≡ Ok j
+      → erased (drop j.offset region) ≡ true
+  opened_stands w page j e =
+      let l : OpenLeft = opened_with w a r region page in
+      claim.opens_erased w page l.page j (opens_by_lem (ap (λ x. record { opening = x; page = l.page }) (sym e)))
 
   -- a record whose commit was not refused is among what a caller reads
   pub committed_read : (fs gs : List Event) → es ≡ fs ++ (call commit ∷ gs) → (done a r (after n a r fs).machine commit).verdict ≡ unrefused

@@ -27,5 +27,5 @@ demand_3 n a r ok es valid =
           λ fs gs is went.
           subst (λ l. Kept (after n a r fs) (after n a r l).book.records) (sym is)
           (committed_kept n a r ok fs gs (valid_front a r (start n) fs (call commit ∷ gs) (subst (Valid a r (start n)) is valid)) went);
-      opens_erased = λ page page' j k. opened_erased region a r page j (sym (ap (λ l. l.opening) k.all));
+      opens_erased = λ w page page' j k. opened_erased region w a r page j (sym (ap (λ l. l.opening) k.all));
     }

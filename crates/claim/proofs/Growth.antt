@@ -32,8 +32,8 @@ grows_appended bs nothing = grows_none bs
 grows_appended bs (under x) = record { more = x ∷ []; is = refl }
 
 grows_told : (b : Book) (c : Call) (v : Verdict) → Grows b.records (told b c v).records
-grows_told b (opening page) unrefused = grows_none b.records
-grows_told b (opening page) (refused_with e) = grows_none b.records
+grows_told b (opening w page) unrefused = grows_none b.records
+grows_told b (opening w page) (refused_with e) = grows_none b.records
 grows_told b (stage x page) unrefused = grows_none b.records
 grows_told b (stage x page) (refused_with e) = grows_none b.records
 grows_told b barrier v = grows_none b.records

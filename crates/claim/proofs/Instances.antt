@@ -28,7 +28,8 @@ use Rattle.place.specs.Walk.{plain, Walk, walk_over, walk}
 use Rattle.finish.specs.Finish.{last_of}
 use Rattle.roundtrip.specs.Typed.{AllBytes, Typed}
 use Rattle.journal.specs.declared.Journal.{Journal}
-use Rattle.journal.specs.Opening.{Opening, opening_of}
+use Rattle.counts.specs.declared.WriteAmplification.{WriteAmplification}
+use Rattle.journal.specs.Opening.{Opening}
 use Rattle.progress.specs.Phases.{unit_of, on_device, is_next, confirmed, under_way}
 use Rattle.staging.specs.Stage.{room_of, coming, staged_over, staged_with, as_staged, begins, staged}
 use Rattle.append.specs.Append.{barred, after_commit, committed}
@@ -38,7 +39,7 @@ use Rattle.claim.specs.Events.{Call, opening, stage, barrier, commit, Event, cal
 use Rattle.claim.specs.Promised.{Reads}
 use Rattle.claim.specs.Claim.{Exactly, units, after}
 use Rattle.claim.proofs.Bits.{bit_and_lem}
-use Rattle.claim.proofs.Invariant.{Sound, opening_is, Inv, lost_inv, ready_inv, staged_inv, firm_inv, keeps, at_first, sound_of}
+use Rattle.claim.proofs.Invariant.{Sound, going_on, opening_is, Inv, lost_inv, ready_inv, staged_inv, firm_inv, keeps, at_first, sound_of}
 use Rattle.claim.specs.Instances.{RowEntry, does, torn, torn_in, Row, lent, events, answers, Holds, AllHold, table, nine, nine_said}
 use Rattle.claim.proofs.Demand3.{demand_3}
 
@@ -48,12 +49,12 @@ use Rattle.claim.proofs.Demand3.{demand_3}
 abbrev pub spare : List ℕ
 spare = replicate 64 0
 
-abbrev pub opens_by : Walk → Opening
-opens_by w = opening_of (units 64 4 1) (last_of (fresh (units 64 4 1)) w)
+abbrev pub opens_by : WriteAmplification → Walk → Opening
+opens_by w x = going_on w (units 64 4 1) (last_of (fresh (units 64 4 1)) x)
 
 -- what a call comes to, an opening by the walk without a page
 abbrev pub plainly : Machine → Call → Outcome
-plainly m (opening page) = let w : Walk = walk (plain 4) m.region 0 in after_opening m (opens_by w)
+plainly m (opening w page) = let x : Walk = walk (plain 4) m.region 0 in after_opening m (opens_by w x)
 plainly m (stage x page) = done 4 1 m (stage x spare)
 plainly m barrier = done 4 1 m barrier
 plainly m commit = done 4 1 m commit
@@ -73,13 +74,13 @@ is_nothing nothing = true
 is_nothing (under x) = false
 
 abbrev pub may_be_made : Book → Call → Bool
-may_be_made b (opening page) = is_nothing b.way
+may_be_made b (opening w page) = is_nothing b.way
 may_be_made b (stage x page) = b.journal && typed x
 may_be_made b barrier = b.journal
 may_be_made b commit = b.journal
 
 abbrev pub may_be_cut : Book → Call → Bool
-may_be_cut b (opening page) = true
+may_be_cut b (opening w page) = true
 may_be_cut b (stage x page) = may_be_made b (stage x page)
 may_be_cut b barrier = may_be_made b barrier
 may_be_cut b commit = may_be_made b commit
@@ -242,27 +243,27 @@ module _ (page : List ℕ) (h : Large page) where
 
   -- what is done with it is what the test does
   done_plainly : (m : Machine) → Sound 64 4 1 allows m.region → Fits m.held → (c : Call) → done 4 1 m (lent page c) ≡ plainly m c
-  done_plainly m x f (opening p) = ap (after_opening m) (opening_is 64 4 1 allows m.region page x h)
+  done_plainly m x f (opening w p) = ap (after_opening m) (opening_is 64 4 1 allows w m.region page x h)
   done_plainly m x f (stage y p) = stages_plainly m y m.held f
   done_plainly m x f barrier = refl
   done_plainly m x f commit = refl
 
   -- the book does not look at it
   told_lent : (b : Book) (c : Call) (v : Verdict) → told b (lent page c) v ≡ told b c v
-  told_lent b (opening p) v = refl
+  told_lent b (opening w p) v = refl
   told_lent b (stage x p) v = refl
   told_lent b barrier v = refl
   told_lent b commit v = refl
 
   sealed_lent : (s : State) (c : Call) (t : List ℕ) → sealed_in 4 s (lent page c) t ≡ sealed_in 4 s c t
-  sealed_lent s (opening p) t = refl
+  sealed_lent s (opening w p) t = refl
   sealed_lent s (stage x p) t = refl
   sealed_lent s barrier t = refl
   sealed_lent s commit t = refl
 
   -- a call that passes the test may stand
   stand_is : (b : Book) (c : Call) → may_be_made b c ≡ true → MayBeMade b (lent page c)
-  stand_is b (opening p) e = (nothing_is b.way e, h)
+  stand_is b (opening w p) e = (nothing_is b.way e, h)
   stand_is b (stage x p) e =
       let both = (and-eq-true_iff b.journal (typed x)).0 e in
       (both.0, h, typed_is x both.1)
@@ -270,7 +271,7 @@ module _ (page : List ℕ) (h : Large page) where
   stand_is b commit e = e
 
   cut_stand_is : (b : Book) (c : Call) → may_be_cut b c ≡ true → MayBeCut b (lent page c)
-  cut_stand_is b (opening p) e = h
+  cut_stand_is b (opening w p) e = h
   cut_stand_is b (stage x p) e = stand_is b (stage x p) e
   cut_stand_is b barrier e = e
   cut_stand_is b commit e = e

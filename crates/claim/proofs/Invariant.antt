@@ -2,7 +2,7 @@
 -- Nothing is assumed of the checks' values, nor of which bits a cut takes.
 use Rattle.std.specs.Prelude.{Ok, Err}
 use mathlib.Core.Path.{◌≡◌, refl, sym, ap, ◌∙◌, subst}
-use mathlib.Core.Bool.{Bool, true, false, not, false≢true}
+use mathlib.Core.Bool.{Bool, true, false, cond, not, false≢true}
 use mathlib.Core.List.{List, [], ◌∷◌, ◌++◌}
 use Prim.Native.Nat.{ℕ, zero, suc, ◌+◌, ◌-◌, ◌≤◌, ◌<◌}
 use native.Mathlib.Omega.{arith}
@@ -10,6 +10,7 @@ use lib.Bits.{and_le_l}
 use lib.Dec.{leb}
 use lib.ListN.{length, take, drop, replicate, length-append, length-replicate}
 use Rattle.waymaker_core.specs.declared.error.Refusal.{Refusal}
+use Rattle.waymaker_core.specs.declared.error.Refusal.TheVariants.{CountTooLarge}
 use Rattle.waymaker_core.proofs.Choice.{cond_case}
 use Rattle.storage.specs.declared.geometry.Geometry.{Geometry}
 use Rattle.storage.specs.Settings.{program_unit, read_unit, allowed, settings}
@@ -20,6 +21,7 @@ use Rattle.storage.proofs.Programming.{programmed_length}
 use Rattle.frame.specs.Lengths.{body_len, record_len, payload_len}
 use Rattle.frame.specs.Format.{seal_of, seal_holds}
 use Rattle.recovery.specs.Next.{fresh}
+use Rattle.recovery.specs.declared.next.Stepped.{Stepped}
 use Rattle.look.proofs.Pages.{front_bytes, capacity_large}
 use Rattle.finish.specs.Finish.{last_of, founds, to_end}
 use Rattle.place.specs.declared.Stop.{Stop}
@@ -31,13 +33,13 @@ use Rattle.roundtrip.proofs.Lists.{bytes_append}
 use Rattle.roundtrip.proofs.Frames.{payload_size}
 use Rattle.counts.specs.declared.WriteAmplification.{WriteAmplification}
 use Rattle.journal.specs.declared.Journal.{Journal}
-use Rattle.journal.specs.Opening.{Opening, opening_of, opened}
+use Rattle.journal.specs.Opening.{Opening, unopened, opening_of, opening_after, opened_with}
 use Rattle.progress.specs.Phases.{StepLeft, is_next, confirmed, under_way}
 use Rattle.progress.proofs.Noted.{on_device_case}
 use Rattle.staging.specs.Stage.{check_for, body_for, begins, staged}
 use Rattle.staging.proofs.Outcomes.{stage_case}
 use Rattle.append.specs.Append.{barred, after_commit, committed}
-use Rattle.counts.specs.Counts.{counts, unwritten as nothing_written, plus}
+use Rattle.counts.specs.Counts.{counts, plus, one_committed, may_go_on}
 use Rattle.claim.specs.Cuts.{Cut}
 use Rattle.claim.specs.Saying.{Given, payload_for, all_given}
 use Rattle.claim.specs.Events.{Call, opening, stage, barrier, commit, Event, call, cut, cut_in, Held, none, holds, Machine, machine, refused_with, Outcome, outcome, after_opening, stepped, done, Torn, TornIn, lost, Way, nothing, under, whole_seal, sealed_in, State, called, cut_off, after_event, run, Large, MayBeMade, Allows, Valid, start}
@@ -64,6 +66,10 @@ drop_bytes (suc n) (x ∷ t) b i = drop_bytes n t (λ j. b (suc j)) i
 programmed_bytes : (t : List ℕ) (o : ℕ) (s : List ℕ) → AllBytes t → AllBytes (programmed t o s)
 unfolding programmed
 programmed_bytes t o s b = bytes_append (take o t) (ands (drop o t) s) (front_bytes t o b) (ands_bytes (drop o t) s (drop_bytes o t b))
+
+-- an opening from the counts w, by the last step of its recovery
+abbrev pub going_on : WriteAmplification → Geometry → Stepped → Opening
+going_on w g x = cond (not (may_go_on w)) (Err CountTooLarge) (opening_of w g x)
 
 -- n bytes with program unit a and read unit r, within their limits
 module _ (n a r : ℕ) (ok : allowed n a r ≡ true) where
@@ -107,31 +113,38 @@ module _ (n a r : ℕ) (ok : allowed n a r ≡ true) where
         → Inv (at (machine s s (holds (busy 2 o x (length (payload_for x)) w))) true (under x) bs)
 
   -- the walk of an opening: no page in it
-  pub opening_is : (s page : List ℕ) → Sound s → Large page
-      → (opened a r s page).opening ≡ opening_of g (last_of (fresh g) (walk (plain a) s 0))
-  unfolding opened settings
-  opening_is s page x h =
-      let t : Goes (fresh g) (founds (fresh g) s page) (to_end (fresh g) s page).out (walk (plain a) s 0) =
-      run_without_page (fresh g) s page (record { still = refl; units = ok; size = x.size }) x.bytes (capacity_large (length page) r both_units.1 (omega (arith, h))) in
-      rw (x.size, ok) (ap (opening_of g) t.ends)
+  pub opening_is : (w : WriteAmplification) (s page : List ℕ) → Sound s → Large page
+      → (opened_with w a r s page).opening ≡ going_on w g (last_of (fresh g) (walk (plain a) s 0))
+  unfolding opened_with settings
+  opening_is w s page x h = rw (x.size, ok) (go (not (may_go_on w))) where
+    t : Goes (fresh g) (founds (fresh g) s page) (to_end (fresh g) s page).out (walk (plain a) s 0)
+    t =
+        run_without_page (fresh g) s page (record { still = refl; units = ok; size = x.size }) x.bytes (capacity_large (length page) r both_units.1 (omega (arith, h)))
+
+    go : (b : Bool) → (cond b (unopened CountTooLarge page) (opening_after w g (to_end (fresh g) s page))).opening
+        ≡ cond b (Err CountTooLarge) (opening_of w g (last_of (fresh g) (walk (plain a) s 0)))
+    go true = refl
+    go false = ap (opening_of w g) t.ends
 
   -- a region in which nothing is loose
   module _ (s : List ℕ) (bs : List Given) (x : Sound s) (v : Shape a s bs) where
     calm_cut : (u : List ℕ) → Cut s s u → Inv (at (lost u) false nothing bs)
     calm_cut u c = subst (λ t. Inv (at (lost t) false nothing bs)) (sym (cut_same s u c)) (lost_inv s bs x v)
 
-    calm_opening : (held : Held) (k : Bool) (page : List ℕ) → Large page → Inv (called (at (machine s s held) k nothing bs) (opening page) (done a r (machine s s held) (opening page)))
-    calm_opening held k page h = subst P (sym (opening_is s page x h)) (go (walk (plain a) s 0).stop refl) where
-      P : Opening → Type 0
-      P y = Inv (called (at (machine s s held) k nothing bs) (opening page) (after_opening (machine s s held) y))
+    calm_opening : (held : Held) (k : Bool) (w : WriteAmplification) (page : List ℕ) → Large page
+        → Inv (called (at (machine s s held) k nothing bs) (opening w page) (done a r (machine s s held) (opening w page)))
+    calm_opening held k w page h =
+        subst P (sym (opening_is w s page x h)) (cond_case P (not (may_go_on w)) (λ _. lost_inv s bs x v) (λ _. go (walk (plain a) s 0).stop refl)) where
+          P : Opening → Type 0
+          P y = Inv (called (at (machine s s held) k nothing bs) (opening w page) (after_opening (machine s s held) y))
 
-      go : (e : Stop) → (walk (plain a) s 0).stop ≡ e → P (opening_of g (last_of (fresh g) (record { points = (walk (plain a) s 0).points; at = (walk (plain a) s 0).at; stop = e })))
-      go End f = ready_inv s (walk (plain a) s 0).at nothing_written bs x (opened_ready a some s bs (skipped_local a some) v f)
-      go (Bad e) f = lost_inv s bs x v
-      go (BadTail i) f = lost_inv s bs x v
-      go NoSeal f = lost_inv s bs x v
-      go (NoSkip i) f = lost_inv s bs x v
-      go (TooSmall m) f = lost_inv s bs x v
+          go : (e : Stop) → (walk (plain a) s 0).stop ≡ e → P (opening_of w g (last_of (fresh g) (record { points = (walk (plain a) s 0).points; at = (walk (plain a) s 0).at; stop = e })))
+          go End f = ready_inv s (walk (plain a) s 0).at w bs x (opened_ready a some s bs (skipped_local a some) v f)
+          go (Bad e) f = lost_inv s bs x v
+          go (BadTail i) f = lost_inv s bs x v
+          go NoSeal f = lost_inv s bs x v
+          go (NoSkip i) f = lost_inv s bs x v
+          go (TooSmall m) f = lost_inv s bs x v
 
   -- a cut between two calls keeps the invariant
   cut_inv : (s : State) → Inv s → (u : List ℕ) → Torn s.machine u → Inv (cut_off s false u)
@@ -202,8 +215,8 @@ module _ (n a r : ℕ) (ok : allowed n a r ≡ true) where
         let b : Busy a s s' o y bs = began y p t g.payload g.room in
         record {
           kept =
-              subst (λ q. Inv (at (machine s' s (holds (busy 1 o y q (plus w (counts q (body_len a q) 1 0))))) true (under y) bs)) (payload_size y.«record» y.free p t g.payload)
-              (staged_inv s s' o y (plus w (counts (length (payload_for y)) (body_len a (length (payload_for y))) 1 0)) bs x x' b);
+              subst (λ q. Inv (at (machine s' s (holds (busy 1 o y q (plus w (counts q (body_len a q) 1 0 1))))) true (under y) bs)) (payload_size y.«record» y.free p t g.payload)
+              (staged_inv s s' o y (plus w (counts (length (payload_for y)) (body_len a (length (payload_for y))) 1 0 1)) bs x x' b);
           torn = λ u c. lost_inv u bs (sound_cut s s' u x x' c) (torn_body a some s s' o y bs b u c);
         })
 
@@ -239,7 +252,7 @@ module _ (n a r : ℕ) (ok : allowed n a r ≡ true) where
         let P : StepLeft → Type 0 = λ l. Keeps s₁ barrier (stepped m₁ l) in
         on_device_case P j₁ s [] _ (λ e _. no_barrier s₁ i₁ _)
         (λ _ _. cond_case P (not (leb (o + body_len a (length (payload_for y)) + a) n)) (λ _. no_barrier s₁ i₁ _)
-        (λ _. record { kept = firm_inv base s o y (plus w (counts 0 0 0 1)) bs x v; torn = cut_inv s₁ i₁ }))
+        (λ _. record { kept = firm_inv base s o y (plus w (counts 0 0 0 1 0)) bs x v; torn = cut_inv s₁ i₁ }))
 
     staged_commit : Keeps s₁ commit (done a r m₁ commit)
     unfolding committed is_next
@@ -292,7 +305,7 @@ module _ (n a r : ℕ) (ok : allowed n a r ≡ true) where
         (λ _ _. cond_case P (not (leb (slot + a) n)) (λ _. no_commit s₂ i₂ _)
         (λ _.
         record {
-          kept = ready_inv sealed_region (slot + a) (plus w (counts 0 a 1 1)) (bs ++ (y ∷ [])) sealed_sound (sealed a some base s o y bs v);
+          kept = ready_inv sealed_region (slot + a) (one_committed (plus w (counts 0 a 1 1 0))) (bs ++ (y ∷ [])) sealed_sound (sealed a some base s o y bs v);
           torn = λ u c. torn_seal u c (seal_holds check (take a (drop slot u))) refl;
         }))
 
@@ -300,15 +313,16 @@ module _ (n a r : ℕ) (ok : allowed n a r ≡ true) where
   under_nothing e = let z : ◌≡◌ {A = ℕ} 0 1 = cc in absurd (omega arith)
 
   -- an opening that may stand keeps the invariant
-  opening_inv : (s : State) (page : List ℕ) → Inv s → s.book.way ≡ nothing → Large page → Inv (called s (opening page) (done a r s.machine (opening page)))
-  opening_inv s page (lost_inv u bs x v) e h = calm_opening u bs x v none false page h
-  opening_inv s page (ready_inv u o w bs x v) e h = calm_opening u bs x (ready_shape a u o bs v) (holds (idle o w)) true page h
-  opening_inv s page (staged_inv base u o y w bs z x v) e h = under_nothing e
-  opening_inv s page (firm_inv base u o y w bs x v) e h = under_nothing e
+  opening_inv : (s : State) (c : WriteAmplification) (page : List ℕ) → Inv s → s.book.way ≡ nothing → Large page
+      → Inv (called s (opening c page) (done a r s.machine (opening c page)))
+  opening_inv s c page (lost_inv u bs x v) e h = calm_opening u bs x v none false c page h
+  opening_inv s c page (ready_inv u o w bs x v) e h = calm_opening u bs x (ready_shape a u o bs v) (holds (idle o w)) true c page h
+  opening_inv s c page (staged_inv base u o y w bs z x v) e h = under_nothing e
+  opening_inv s c page (firm_inv base u o y w bs x v) e h = under_nothing e
 
   -- wherever it stands it writes nothing, so that a cut within it is one between two calls
-  opening_torn : (s : State) (page u : List ℕ) → Inv s → TornIn a r s.machine (opening page) u → Inv (cut_off s false u)
-  opening_torn s page u i c = cut_inv s i u (subst (λ t. Cut s.machine.base t u) (same (opened a r s.machine.region page).opening) c) where
+  opening_torn : (s : State) (w : WriteAmplification) (page u : List ℕ) → Inv s → TornIn a r s.machine (opening w page) u → Inv (cut_off s false u)
+  opening_torn s w page u i c = cut_inv s i u (subst (λ t. Cut s.machine.base t u) (same (opened_with w a r s.machine.region page).opening) c) where
     same : (y : Opening) → (after_opening s.machine y).left.region ≡ s.machine.region
     same (Ok j) = refl
     same (Err e) = refl
@@ -335,12 +349,12 @@ module _ (n a r : ℕ) (ok : allowed n a r ≡ true) where
   -- every event keeps the invariant
   pub keeps : (s : State) (e : Event) → Inv s → Allows a r s e → Inv (after_event a r s e)
   unfolding after_event
-  keeps s (call (opening page)) i h = opening_inv s page i h.0 h.1
+  keeps s (call (opening w page)) i h = opening_inv s w page i h.0 h.1
   keeps s (call (stage q page)) i h = (stage_inv s q page i h).kept
   keeps s (call barrier) i h = (barrier_inv s i h).kept
   keeps s (call commit) i h = (commit_inv s i h).kept
   keeps s (cut t) i h = cut_inv s i t h
-  keeps s (cut_in (opening page) t) i h = opening_torn s page t i h.1
+  keeps s (cut_in (opening w page) t) i h = opening_torn s w page t i h.1
   keeps s (cut_in (stage q page) t) i h = (stage_inv s q page i h.0).torn t h.1
   keeps s (cut_in barrier t) i h = (barrier_inv s i h.0).torn t h.1
   keeps s (cut_in commit t) i h = (commit_inv s i h.0).torn t h.1

@@ -7,7 +7,7 @@ use Prim.Native.Nat.{ℕ}
 use Rattle.waymaker_core.proofs.Choice.{cond_case}
 use Rattle.storage.specs.Settings.{allowed}
 use Rattle.journal.specs.declared.Journal.{Journal}
-use Rattle.journal.specs.Opening.{opened}
+use Rattle.journal.specs.Opening.{opened_with}
 use Rattle.journal.proofs.Openings.{opens_by_lem}
 use Rattle.progress.specs.Phases.{StepLeft, is_next}
 use Rattle.staging.specs.Stage.{staged}
@@ -23,7 +23,7 @@ use Rattle.claim.proofs.Invariant.{Inv, lost_inv, ready_inv, staged_inv, firm_in
 module _ (a r : ℕ) where
   -- a call's results that keep its promise are those that the definitions give
   pub made_done : (m : Machine) (c : Call) (o : Outcome) → Made a r m c o → o ≡ done a r m c
-  made_done m c o (opens page x page' k) = ap (λ l. after_opening m l.opening) k.all
+  made_done m c o (opens w page x page' k) = ap (λ l. after_opening m l.opening) k.all
   made_done m c o (stages j x page out region' page' e k) = ap (stepped m) k.all ∙ ap (λ h. step_by m h (λ i. staged i x.«record» x.free m.region page)) (sym e)
   made_done m c o (confirms j out e k) = ap (stepped m) k.all ∙ ap (λ h. step_by m h (λ i. barred i m.region)) (sym e)
   made_done m c o (commits j out region' e k) = ap (stepped m) k.all ∙ ap (λ h. step_by m h (λ i. committed i m.region)) (sym e)
@@ -68,9 +68,9 @@ module _ (n a r : ℕ) (ok : allowed n a r ≡ true) where
 
   -- a call that may stand has results that keep its promise
   makes : (s : State) (c : Call) → Inv n a r ok s → MayBeMade s.book c → Made a r s.machine c (done a r s.machine c)
-  makes s (opening page) i h =
-      let l = opened a r s.machine.region page in
-      opens page l.opening l.page (opens_by_lem refl)
+  makes s (opening w page) i h =
+      let l = opened_with w a r s.machine.region page in
+      opens w page l.opening l.page (opens_by_lem refl)
   makes s (stage x page) i h =
       let p : Present s.machine.held = present s i h.0 in
       let f : Journal → StepLeft = λ j. staged j x.«record» x.free s.machine.region page in

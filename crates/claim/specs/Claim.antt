@@ -7,6 +7,7 @@ use Rattle.storage.specs.declared.geometry.Geometry.{Geometry}
 use Rattle.storage.specs.Settings.{allowed}
 use Rattle.storage.specs.Media.{erased}
 use Rattle.recovery.specs.Next.{fresh}
+use Rattle.counts.specs.declared.WriteAmplification.{WriteAmplification}
 use Rattle.journal.specs.declared.Journal.{Journal}
 use Rattle.journal.specs.Opening.{Opens}
 use Rattle.claim.specs.Saying.{Given, all_given}
@@ -48,8 +49,8 @@ module _ (n a r : ℕ) where
         → (done a r (after fs).machine commit).verdict ≡ unrefused
         → Kept (after fs) (after es).book.records
     -- an opening that succeeds after the list: nothing is programmed from its journal's offset on, the append offset
-    pub opens_erased : (page page' : List ℕ) (j : Journal)
-        → Opens a r (after es).machine.region page (Ok j) page'
+    pub opens_erased : (w : WriteAmplification) (page page' : List ℕ) (j : Journal)
+        → Opens w a r (after es).machine.region page (Ok j) page'
         → erased (drop j.offset (after es).machine.region) ≡ true
 
 -- the theorem, proved in `proofs/Demand3.antt`: within the limits of the settings, the claim holds of every list meant

@@ -12,6 +12,8 @@ use Rattle.storage.specs.Media.{programmed}
 use Rattle.payload.specs.declared.Decoded.TheVariants.{Record as Known}
 use Rattle.payload.specs.Payload.{part}
 use Rattle.recovery.specs.Next.{fresh}
+use Rattle.counts.specs.declared.WriteAmplification.{WriteAmplification}
+use Rattle.counts.specs.Counts.{unwritten}
 use Rattle.staging.specs.Stage.{body_for}
 use Rattle.claim.specs.Saying.{Given, Said, all_given}
 use Rattle.claim.specs.Events.{Call, opening, stage, barrier, commit, Event, call, cut, cut_in}
@@ -35,7 +37,7 @@ pub record Row : Type 0 where
 
 -- a call, lent a page in place of its own
 abbrev pub lent : List ℕ → Call → Call
-lent page (opening p) = opening page
+lent page (opening w p) = opening w page
 lent page (stage x p) = stage x page
 lent page barrier = barrier
 lent page commit = commit
@@ -87,9 +89,12 @@ goes c = does c unrefused
 abbrev pub refused : Call → Refusal → RowEntry
 refused c e = does c (refused_with e)
 
--- an opening, whose page is yet to be lent
+-- an opening that goes on from these counts, whose page is yet to be lent; and one that starts at zero
+abbrev pub opening_from : WriteAmplification → Call
+opening_from w = opening w []
+
 abbrev pub an_opening : Call
-an_opening = opening []
+an_opening = opening_from unwritten
 
 -- a stage, likewise
 abbrev pub a_stage : Given → Call

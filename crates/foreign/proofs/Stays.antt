@@ -1,17 +1,14 @@
 -- A byte that something else has written stays: what a record is to take was erased when it was staged, and the steps
 -- program nothing but that.
 -- Assumes nothing.
-use Rattle.std.proofs.lemmas.Bool.{not-false}
-use mathlib.Core.Path.{◌≡◌, refl, sym, ap, subst, ◌∙◌}
-use mathlib.Core.Bool.{Bool, true, not, cond, and-eq-true_iff}
-use mathlib.Core.List.{List, []}
+use mathlib.Core.Path.{◌≡◌, refl, sym, ap, ◌∙◌}
+use mathlib.Core.Bool.{true, and-eq-true_iff}
+use mathlib.Core.List.{List}
 use Prim.Native.Nat.{ℕ, suc, ◌+◌, ◌≤◌}
 use native.Mathlib.Omega.{arith}
 use lib.ListN.{length}
 use borrow.Author.Tests.{eqb-true}
-use Rattle.waymaker_core.specs.declared.error.Refusal.TheVariants.{OutOfOrder}
 use Rattle.waymaker_core.specs.declared.«record».Record.{Record}
-use Rattle.waymaker_core.proofs.Choice.{cond_case}
 use Rattle.storage.proofs.Units.{limits}
 use Rattle.storage.proofs.ErasedBytes.{beyond_erased}
 use Rattle.storage.proofs.Programming.{programmed_behind}
@@ -22,12 +19,13 @@ use Rattle.frame.proofs.Sizes.{payload_is}
 use Rattle.seal.proofs.Seals.{seal_length}
 use Rattle.roundtrip.proofs.RoundTrip.{body_length}
 use Rattle.journal.specs.declared.Journal.{Journal}
-use Rattle.progress.specs.Phases.{unit_of, StepLeft, keeps, on_device, is_next, confirmed, under_way}
-use Rattle.progress.proofs.Noted.{on_device_case}
+use Rattle.progress.specs.Phases.{unit_of, StepLeft, is_next, confirmed, under_way}
 use Rattle.staging.specs.Stage.{body_for, begins, staged}
 use Rattle.staging.proofs.Outcomes.{stage_case}
 use Rattle.append.specs.Append.{barred, after_commit, committed}
-use Rattle.foreign.specs.Foreign.{byte_at, Event, Leads, rests, stages, confirms, commits, writes, Theorem}
+use Rattle.append.proofs.Onward.{barrier_case, commit_case}
+use Rattle.foreign.specs.Foreign.{byte_at, Spares, Theorem}
+use Rattle.foreign.proofs.Along.{Left, Kept, along}
 
 -- a byte that is programmed, at place i, which reads as v
 module _ (i v : ℕ) (solid : v ≡ 255 → ⊥) where
@@ -39,7 +37,7 @@ module _ (i v : ℕ) (solid : v ≡ 255 → ⊥) where
     behind : (j.phase ≡ 0 → ⊥) → j.offset + j.body_len + unit_of j ≤ i
 
   abbrev SafeLeft : StepLeft → Type 0
-  SafeLeft l = Safe l.out.journal l.region
+  SafeLeft = Left Safe
 
   -- a step that is refused changes nothing, and one that goes keeps the byte
   module _ (j : Journal) (s : List ℕ) (h : Safe j s) where
@@ -59,27 +57,23 @@ module _ (i v : ℕ) (solid : v ≡ 255 → ⊥) where
           behind = λ _. omega (arith, room);
         })
 
-    -- a step that is refused, or comes to l
-    turned : (page : List ℕ) (turn : Bool) (l : StepLeft) → (turn ≡ true → SafeLeft l) → SafeLeft (on_device j s page (cond (not turn) (keeps OutOfOrder j s page) l))
-    turned page turn l go =
-        on_device_case SafeLeft j s page _ (λ e _. h)
-        (λ _ _. cond_case SafeLeft (not turn) (λ _. h) (λ t. go (not-false turn t)))
-
     -- a record is under way where barrier or commit are next
     under : (k : ℕ) → is_next (suc k) j ≡ true → j.phase ≡ 0 → ⊥
     unfolding is_next
     under k e z = absurd (omega (arith, eqb-true j.phase (suc k) ((and-eq-true_iff _ _).0 e).0, z))
 
     barrier_keeps : SafeLeft (barred j s)
-    unfolding barred confirmed
-    barrier_keeps = turned [] (is_next 1 j) _ (λ e. record { is = h.is; beyond = h.beyond; behind = λ _. h.behind (under 0 e) })
+    unfolding confirmed
+    barrier_keeps =
+        barrier_case SafeLeft j s (λ e. h)
+        (λ g. record { is = h.is; beyond = h.beyond; behind = λ _. h.behind (under 0 g.turned) })
 
     commit_keeps : SafeLeft (committed j s)
-    unfolding committed after_commit
+    unfolding after_commit
     commit_keeps =
-        turned [] (is_next 2 j) _
-        (λ e.
-        let room : j.offset + j.body_len + unit_of j ≤ i = h.behind (under 1 e) in
+        commit_case SafeLeft j s (λ e. h)
+        (λ g.
+        let room : j.offset + j.body_len + unit_of j ≤ i = h.behind (under 1 g.turned) in
         record {
           is = programmed_behind s (j.offset + j.body_len) (seal_of (unit_of j) j.frame_crc) i (omega (arith, seal_length 0 (unit_of j) j.frame_crc, room)) ∙ h.is;
           beyond = room;
@@ -87,17 +81,17 @@ module _ (i v : ℕ) (solid : v ≡ 255 → ⊥) where
         })
 
   -- and so does a list
-  all_keep : (j k : Journal) (s t : List ℕ) (es : List Event) → Safe j s → Leads i j s es k t → Safe k t
-  all_keep j k s t es h (rests j' s') = h
-  all_keep j k s t es h (stages j' k' s₀ s' t' es' x free page page' out p l) =
-      all_keep out.journal k s' t es' (subst SafeLeft (sym p.all) (stage_keeps j s h x free page)) l
-  all_keep j k s t es h (confirms j' k' s₀ t' es' out p l) = all_keep out.journal k s t es' (subst SafeLeft (sym p.all) (barrier_keeps j s h)) l
-  all_keep j k s t es h (commits j' k' s₀ s' t' es' out p l) = all_keep out.journal k s' t es' (subst SafeLeft (sym p.all) (commit_keeps j s h)) l
-  all_keep j k s t es h (writes j' k' s₀ u t' es' e l) =
-      all_keep j k u t es' (record { is = e ∙ h.is; beyond = h.beyond; behind = h.behind }) l
+  all_keep : Kept (Spares i) Safe
+  all_keep =
+      record {
+        by_stage = stage_keeps;
+        by_barrier = barrier_keeps;
+        by_commit = commit_keeps;
+        by_others = λ j s u h e. record { is = e ∙ h.is; beyond = h.beyond; behind = h.behind };
+      }
 
 pub foreign_bytes_stay : Theorem
 foreign_bytes_stay i j k s t es f l =
     let at_end : Safe i (byte_at i s) f.programmed k t =
-    all_keep i (byte_at i s) f.programmed j k s t es (record { is = refl; beyond = f.beyond; behind = λ n. absurd (n f.ready) }) l in
+    along (Spares i) (Safe i (byte_at i s) f.programmed) (all_keep i (byte_at i s) f.programmed) j k s t es (record { is = refl; beyond = f.beyond; behind = λ n. absurd (n f.ready) }) l in
     record { same = at_end.is; beyond = at_end.beyond }

@@ -19,30 +19,13 @@ use Rattle.progress.specs.declared.Progress.TheVariants.{Confirmed, Committed}
 use Rattle.progress.specs.declared.Advanced.{Advanced}
 use Rattle.progress.specs.Phases.{StepLeft, keeps, on_device, is_next, confirmed, under_way}
 use Rattle.staging.specs.Stage.{begins, staged}
-use Rattle.staging.proofs.Staging.{stages_by}
 use Rattle.append.specs.Append.{barred, after_commit, committed}
-use Rattle.append.proofs.Onward.{confirms_by, commits_by}
 use Rattle.claim.specs.Saying.{Given}
 use Rattle.claim.specs.Instances.{armed, fired}
-use Rattle.foreign.specs.Foreign.{Event, barrier, commit, Leads, rests, stages, confirms, commits, writes}
+use Rattle.foreign.specs.Steps.{Event, barrier, commit, Leads, rests, writes}
+use Rattle.foreign.specs.Foreign.{Spares}
+use Rattle.instances.proofs.Steps.{page, by_stage, by_barrier, by_commit}
 use Rattle.instances.specs.Foreign.{noted, noted_behind, noted_twice, at_start, behind, spoiled, stages_to, goes_through, Instances}
-
--- a page of 64 bytes
-abbrev page : List ℕ
-page = replicate 64 0
-
--- each step by its definition, and the list that goes on from what it leaves
-module _ (i : ℕ) (k : Journal) (t : List ℕ) (es : List Event) (j : Journal) (s : List ℕ) where
-  by_stage : (x : Given) (l : StepLeft) → l ≡ staged j x.«record» x.free s page → Leads i l.out.journal l.region es k t
-      → Leads i j s (stages_to x l.out.progress ∷ es) k t
-  by_stage x l e = stages j k s l.region t es x.«record» x.free page l.page l.out (stages_by e)
-
-  by_barrier : (out : Advanced) → record { out = out; region = s; page = [] } ≡ barred j s → Leads i out.journal s es k t → Leads i j s (barrier out.progress ∷ es) k t
-  by_barrier out e = confirms j k s t es out (confirms_by e)
-
-  by_commit : (l : StepLeft) → record { out = l.out; region = l.region; page = [] } ≡ committed j s → Leads i l.out.journal l.region es k t
-      → Leads i j s (commit l.out.progress ∷ es) k t
-  by_commit l e = commits j k s l.region t es l.out (commits_by e)
 
 -- the append of the record of 20 bytes
 abbrev staged_fired : StepLeft
@@ -55,21 +38,21 @@ abbrev committed_fired : StepLeft
 committed_fired = committed barred_fired.out.journal staged_fired.region
 
 module _ (i : ℕ) (k : Journal) (t : List ℕ) (es : List Event) where
-  append_fired : Leads i behind noted_behind es k t → Leads i at_start noted (goes_through es) k t
+  append_fired : Leads (Spares i) behind noted_behind es k t → Leads (Spares i) at_start noted (goes_through es) k t
   unfolding erased programmed_from first_programmed programmed ands bit_step bit_steps octet octets fcs header_check frame_check bytes_le field_bytes fields body_len record_len well_given payload_fits payload_len numbers_of payload_of checked_header header_of covered_of check_of frame_of padding_of seal_byte seal_from body_of widths round_up known seq_fits run_scoped has_free one_of free_fits clock_known clock_fits numbers_len allowed region_length program_unit read_unit unit_up_to on_device under_way begins staged is_next confirmed barred after_commit committed
   append_fired l =
-      by_stage i k t (barrier (Ok Confirmed) ∷ (commit (Ok (Committed (counts 0 20 2 2))) ∷ es)) at_start noted fired staged_fired refl
-      (by_barrier i k t (commit (Ok (Committed (counts 0 20 2 2))) ∷ es) staged_fired.out.journal staged_fired.region barred_fired.out refl
-      (by_commit i k t es barred_fired.out.journal staged_fired.region committed_fired refl l))
+      by_stage (Spares i) k t (barrier (Ok Confirmed) ∷ (commit (Ok (Committed (counts 0 20 2 2 0))) ∷ es)) at_start noted fired staged_fired refl
+      (by_barrier (Spares i) k t (commit (Ok (Committed (counts 0 20 2 2 0))) ∷ es) staged_fired.out.journal staged_fired.region barred_fired.out refl
+      (by_commit (Spares i) k t es barred_fired.out.journal staged_fired.region committed_fired refl l))
 
   -- a stage that is refused with 18: a record of 40 bytes at the start and one of 20 behind the other
-  refused_at_start : Leads i at_start noted es k t → Leads i at_start noted (stages_to armed spoiled ∷ es) k t
+  refused_at_start : Leads (Spares i) at_start noted es k t → Leads (Spares i) at_start noted (stages_to armed spoiled ∷ es) k t
   unfolding erased programmed_from first_programmed body_len record_len well_given payload_fits payload_len widths round_up known seq_fits run_scoped has_free one_of free_fits clock_known clock_fits numbers_len allowed region_length program_unit read_unit unit_up_to on_device staged
-  refused_at_start l = by_stage i k t es at_start noted armed (keeps (NotErased Ahead 30) at_start noted page) refl l
+  refused_at_start l = by_stage (Spares i) k t es at_start noted armed (keeps (NotErased Ahead 30) at_start noted page) refl l
 
-  refused_behind : (x : Given) (s : List ℕ) → keeps (NotErased Ahead 30) behind s page ≡ staged behind x.«record» x.free s page → Leads i behind s es k t
-      → Leads i behind s (stages_to x spoiled ∷ es) k t
-  refused_behind x s e l = by_stage i k t es behind s x (keeps (NotErased Ahead 30) behind s page) e l
+  refused_behind : (x : Given) (s : List ℕ) → keeps (NotErased Ahead 30) behind s page ≡ staged behind x.«record» x.free s page → Leads (Spares i) behind s es k t
+      → Leads (Spares i) behind s (stages_to x spoiled ∷ es) k t
+  refused_behind x s e l = by_stage (Spares i) k t es behind s x (keeps (NotErased Ahead 30) behind s page) e l
 
 pub instances : Instances
 unfolding erased programmed_from first_programmed body_len record_len well_given payload_fits payload_len widths round_up known seq_fits run_scoped has_free one_of free_fits clock_known clock_fits numbers_len allowed region_length program_unit read_unit unit_up_to on_device staged barred is_next
@@ -77,7 +60,7 @@ instances =
     record {
       refused =
           refused_at_start 30 at_start noted _
-          (by_barrier 30 at_start noted [] at_start noted (record { journal = at_start; progress = Err OutOfOrder }) refl (rests at_start noted));
+          (by_barrier (Spares 30) at_start noted [] at_start noted (record { journal = at_start; progress = Err OutOfOrder }) refl (rests at_start noted));
       before = append_fired 30 behind noted_behind _ (refused_behind 30 behind noted_behind [] fired noted_behind refl (rests behind noted_behind));
       later =
           append_fired 31 behind noted_twice _

@@ -1,3 +1,5 @@
--- The instances of demand 3, computed.
+-- The instances of demand 3, and of the theorems beside it, computed.
 pub mod Tried
+pub mod Steps
 pub mod Foreign
+pub mod Counted

@@ -1,3 +1,4 @@
--- Instances of demand 3, and of the theorem beside it.
+-- Instances of demand 3, and of the theorems beside it.
 pub mod Table
 pub mod Foreign
+pub mod Counted

@@ -3,14 +3,15 @@
 use Rattle.std.specs.Prelude.{true, false, List, [], ◌∷◌, ◌++◌, ℕ, ◌+◌, length, get_or, take, drop, replicate}
 use Rattle.waymaker_core.specs.declared.error.DecodeError.TheVariants.{LengthOutOfBounds}
 use Rattle.waymaker_core.specs.declared.error.Refusal.TheVariants.{Decode, NotAppendable, Interrupted}
-use Rattle.waymaker_core.specs.declared.error.Refusal.TheVariants.{NoRoom, OutOfOrder, NotARecord}
+use Rattle.waymaker_core.specs.declared.error.Refusal.TheVariants.{NoRoom, OutOfOrder, NotARecord, CountTooLarge}
 use Rattle.storage.specs.Media.{programmed}
 use Rattle.frame.specs.Lengths.{body_len}
 use Rattle.frame.specs.Format.{seal_of}
+use Rattle.counts.specs.Counts.{counts}
 use Rattle.staging.specs.Stage.{check_for}
 use Rattle.claim.specs.Saying.{Given, payload_for}
 use Rattle.claim.specs.Events.{barrier, commit, nothing}
-use Rattle.claim.specs.Instances.{Row, torn, torn_in, row, goes, refused, an_opening, a_stage}
+use Rattle.claim.specs.Instances.{Row, torn, torn_in, row, goes, refused, opening_from, an_opening, a_stage}
 use Rattle.claim.specs.Instances.{to_stage, to_barrier, appends}
 use Rattle.claim.specs.Instances.{giving, started, scheduled, failed, armed, fired, marker, blank, bodied}
 
@@ -28,6 +29,10 @@ partly k s t = take k t ++ drop k s
 -- t with one bit of the byte at place i, the bit worth b, which t has 0, left 1
 abbrev pub but_bit : ℕ → ℕ → List ℕ → List ℕ
 but_bit i b t = take i t ++ (get_or t i 0 + b) ∷ drop (i + 1) t
+
+-- the largest count that an opening takes
+abbrev pub edge : ℕ
+edge = 4611686018427387904
 
 -- # The rows
 
@@ -58,7 +63,7 @@ refusing =
     true nothing (fired ∷ [])
     ∷ []
 
--- an opening where there is something
+-- an opening where there is something, and one from counts
 abbrev pub reopening : List Row
 reopening =
     -- where there is a journal: with no record, and with one
@@ -72,6 +77,11 @@ reopening =
     ∷ row (to_stage scheduled ++ torn (bodied blank 0 scheduled)
     ∷ refused an_opening NotAppendable ∷ refused an_opening NotAppendable ∷ [])
     false nothing []
+    -- from counts of 2 to the 62nd; and from one above that, which is refused
+    ∷ row (goes (opening_from (counts edge edge edge edge edge)) ∷ appends fired) true nothing (fired ∷ [])
+    ∷ row (goes an_opening ∷ appends fired ++ refused (opening_from (counts 0 0 0 0 (edge + 1))) CountTooLarge
+    ∷ refused (opening_from (counts (edge + 1) 0 0 0 0)) CountTooLarge ∷ goes an_opening ∷ appends armed)
+    true nothing (fired ∷ armed ∷ [])
     ∷ []
 
 -- a cut between two calls

@@ -5,10 +5,12 @@
 
 ghost use Rattle.std.specs.Prelude.{◌≡◌};
 ghost use Rattle.recovery.specs.Next.{NextStep, part_at};
+ghost use Rattle.counts.specs.Counts.{unwritten};
 ghost use Rattle.journal.specs.Opening.{Opens};
 ghost use Rattle.staging.specs.Stage.{Stages};
 ghost use Rattle.append.specs.Append.{Confirms, Commits};
 
+use counts::WriteAmplification;
 use journal::Journal;
 use progress::Advanced;
 use recovery::next::{Recovery, Stepped};
@@ -16,12 +18,24 @@ use waymaker_core::error::Refusal;
 use waymaker_core::record::Record;
 
 fn opens(
+    written: WriteAmplification,
     program_size: usize,
     read_size: usize,
     region: &[u8],
     page: &mut [u8],
 ) -> Result<Journal, Refusal>
-    ensures { Opens program_size read_size region.now page.old result page.new }
+    ensures { Opens written program_size read_size region.now page.old result page.new }
+{
+    Journal::open_with(written, program_size, read_size, region, page)
+}
+
+fn opens_at_zero(
+    program_size: usize,
+    read_size: usize,
+    region: &[u8],
+    page: &mut [u8],
+) -> Result<Journal, Refusal>
+    ensures { Opens unwritten program_size read_size region.now page.old result page.new }
 {
     Journal::open(program_size, read_size, region, page)
 }

@@ -1,21 +1,28 @@
 // Appends to small regions and prints each step: records that go through, steps out of order, what does not fit, and
-// what would go over a byte that something else has written.
+// what would go over a byte that something else has written; then openings that go on from counts.
 #![tactic(auto)]
 
 mod shown;
 
 use append::step::{commit, payload_barrier};
+use counts::WriteAmplification;
 use journal::Journal;
 use shown::Step;
 use staging::step::stage;
 use std::io;
 use testing::refusals::Refused;
+use waymaker_core::error::Refusal;
 use waymaker_core::id::EffectSeq;
 use waymaker_core::record::{Record, RecordKind};
 use waymaker_core::timer::ClockKind;
 
 // A place past every region.
 const NOWHERE: usize = 64;
+
+// The largest count that an opening takes, 2 to the 62nd, and the next.
+const TAKEN: u64 = 0x4000_0000_0000_0000;
+
+const ABOVE: u64 = 0x4000_0000_0000_0001;
 
 // A step of an append. A list of closures would have no names to print, and test_lents' steps take free bytes too.
 #[derive(Clone, Copy)]
@@ -69,7 +76,25 @@ fn calls() -> [Call; 11] {
     ]
 }
 
-// Opens, and appends what fits; before the first step something else writes a byte, where the region has that place.
+// What an opening answers, and appends of what fits.
+fn append(
+    rt: &impl Print,
+    opening: Result<Journal, Refusal>,
+    region: &mut [u8],
+    page: &mut [u8],
+) -> io::Result<()> {
+    let mut journal = match opening {
+        Ok(journal) => journal,
+        Err(refusal) => return rt.println(Refused(refusal)),
+    };
+    println!(rt; "ready at {}", journal.offset)?;
+    for call in calls() {
+        journal = show(rt, journal, call, region, page)?;
+    }
+    Ok(())
+}
+
+// Opens and appends; before the first step something else writes a byte, where the region has that place.
 fn run(
     rt: &impl Print,
     name: &str,
@@ -78,18 +103,62 @@ fn run(
     at: usize,
 ) -> io::Result<()> {
     rt.println(name)?;
-    let mut journal = match Journal::open(4, 1, region, page) {
-        Ok(journal) => journal,
-        Err(refusal) => return rt.println(Refused(refusal)),
-    };
-    println!(rt; "ready at {}", journal.offset)?;
+    let opening = Journal::open(4, 1, region, page);
     if let Some(byte) = region.get_mut(at) {
         *byte = 0;
     }
-    for call in calls() {
-        journal = show(rt, journal, call, region, page)?;
+    append(rt, opening, region, page)
+}
+
+// Opens from counts and appends.
+fn go_on(rt: &impl Print, name: &str, written: WriteAmplification) -> io::Result<()> {
+    let mut region = [255; 40];
+    let mut page = [0; 64];
+    rt.println(name)?;
+    let opening = Journal::open_with(written, 4, 1, &region, &mut page);
+    append(rt, opening, &mut region, &mut page)
+}
+
+// Counts that are all the same.
+fn all(n: u64) -> WriteAmplification {
+    WriteAmplification {
+        payload_bytes: n,
+        programmed_bytes: n,
+        program_operations: n,
+        barriers: n,
+        uncommitted_appends: n,
+    }
+}
+
+// The largest that an opening takes with one count above it, each in turn; nothing is read, so that the page stays.
+fn above(rt: &impl Print) -> io::Result<()> {
+    let mut each = [all(TAKEN); 5];
+    each[0].payload_bytes = ABOVE;
+    each[1].programmed_bytes = ABOVE;
+    each[2].program_operations = ABOVE;
+    each[3].barriers = ABOVE;
+    each[4].uncommitted_appends = ABOVE;
+    for written in each {
+        let mut page = [7; 64];
+        let opening = Journal::open_with(written, 4, 1, &[255; 40], &mut page);
+        append(rt, opening, &mut [255; 40], &mut page)?;
+        println!(rt; "the page as it was: {}", page == [7; 64])?;
     }
     Ok(())
+}
+
+// Openings from counts. Refusal 24 comes behind 1 and before 3.
+fn handed(rt: &impl Print) -> io::Result<()> {
+    go_on(rt, "counts of 4294967290", all(4_294_967_290))?;
+    go_on(rt, "counts of 2 to the 62nd", all(TAKEN))?;
+    rt.println("one count above 2 to the 62nd")?;
+    above(rt)?;
+    rt.println("all above it, and a=3; all above it, and a page of 15 bytes for r=16")?;
+    let mut page = [0; 15];
+    let opening = Journal::open_with(all(ABOVE), 3, 1, &[255; 40], &mut page);
+    append(rt, opening, &mut [255; 40], &mut page)?;
+    let opening = Journal::open_with(all(ABOVE), 4, 16, &[255; 40], &mut page);
+    append(rt, opening, &mut [255; 40], &mut page)
 }
 
 fn main(rt: HostRuntime) -> io::Result<()> {
@@ -130,5 +199,6 @@ fn main(rt: HostRuntime) -> io::Result<()> {
         &mut [255; 40],
         &mut [0; 19],
         19,
-    )
+    )?;
+    handed(&rt)
 }

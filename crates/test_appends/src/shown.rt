@@ -11,7 +11,8 @@ impl fmt::Display for Counts {
     fn fmt<W: fmt::Write>(&self, f: &mut fmt::Formatter<W>) -> fmt::Result {
         let counts = self.0;
         write!(f, "{} {}", counts.payload_bytes, counts.programmed_bytes)?;
-        write!(f, " {} {}", counts.program_operations, counts.barriers)
+        write!(f, " {} {}", counts.program_operations, counts.barriers)?;
+        write!(f, " {}", counts.uncommitted_appends)
     }
 }
 

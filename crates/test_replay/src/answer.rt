@@ -47,11 +47,24 @@ impl Answer<'_> {
         self.read(read.record, read.free)
     }
 
+    // Four counts of 32 bits: the Rust has no fifth.
     pub(crate) fn counts(&mut self, counts: WriteAmplification) -> Option<()> {
-        self.number(counts.payload_bytes)?;
-        self.number(counts.programmed_bytes)?;
-        self.number(counts.program_operations)?;
-        self.number(counts.barriers)
+        let WriteAmplification {
+            payload_bytes,
+            programmed_bytes,
+            program_operations,
+            barriers,
+            ..
+        } = counts;
+        for count in [
+            payload_bytes,
+            programmed_bytes,
+            program_operations,
+            barriers,
+        ] {
+            self.number(u32::try_from(count).ok()?)?;
+        }
+        Some(())
     }
 
     // The case has no more.

@@ -4,7 +4,7 @@ use crate::ffi;
 use crate::record::Given;
 use crate::refusal::Refusal;
 
-/// What was written; each count stops at 4,294,967,295.
+/// What was written; each count stops at the largest 64-bit number.
 pub type Written = ffi::Written;
 
 impl Written {
@@ -15,7 +15,7 @@ impl Written {
     }
 
     /// The bytes that were programmed beside the payload.
-    pub fn overhead_bytes(self) -> u32 {
+    pub fn overhead_bytes(self) -> u64 {
         // SAFETY: the call takes numbers only, and any.
         unsafe { ffi::jardolento_overhead_bytes(self) }
     }
@@ -34,8 +34,8 @@ pub enum Phase {
     Other(u8),
 }
 
-/// Where the next record goes, what is under way, and what was written since the opening. The field is public, so that
-/// any state can be passed and kept.
+/// Where the next record goes, what is under way, and what was written. The field is public, so that any state can be
+/// passed and kept.
 #[derive(Clone, Copy, Debug, PartialEq, Eq)]
 pub struct Journal(pub ffi::Journal);
 
@@ -45,6 +45,30 @@ impl Journal {
         // SAFETY: each pointer goes with its slice's length, and `page` is borrowed alone, so it overlaps nothing.
         let opening = unsafe {
             ffi::jardolento_open(program_size, read_size, region.as_ptr(), region.len(), page.as_mut_ptr(), page.len())
+        };
+        Refusal::unless(opening.refused, Self(opening.journal))
+    }
+
+    /// The same, and the counts go on from these, so that they count for the box's whole life: hand over those of the
+    /// last journal, kept where the box likes. Each is 2 to the 62nd at most, or it is refused before anything is read.
+    pub fn open_with(
+        written: Written,
+        program_size: usize,
+        read_size: usize,
+        region: &[u8],
+        page: &mut [u8],
+    ) -> Result<Self, Refusal> {
+        // SAFETY: each pointer goes with its slice's length, and `page` is borrowed alone, so it overlaps nothing.
+        let opening = unsafe {
+            ffi::jardolento_open_with(
+                written,
+                program_size,
+                read_size,
+                region.as_ptr(),
+                region.len(),
+                page.as_mut_ptr(),
+                page.len(),
+            )
         };
         Refusal::unless(opening.refused, Self(opening.journal))
     }
@@ -80,7 +104,7 @@ impl Journal {
         self.advance(step).map(|_| ())
     }
 
-    /// The third step: programs the seal, and answers what this record wrote. Wait until it is on flash.
+    /// The third step: programs the seal, and answers what this record alone wrote. Wait until it is on flash.
     pub fn commit(&mut self, region: &mut [u8]) -> Result<Written, Refusal> {
         // SAFETY: the pointer and the length are of one slice, which is borrowed alone.
         let step = unsafe { ffi::jardolento_commit(self.0, region.as_mut_ptr(), region.len()) };
@@ -92,7 +116,7 @@ impl Journal {
         self.0.offset
     }
 
-    /// What was written since the opening.
+    /// What was written: since the opening, and before it as far as the opening was handed that.
     pub fn written(&self) -> Written {
         self.0.written
     }

@@ -120,10 +120,11 @@ pub struct ScanStep {
 #[repr(C)]
 #[derive(Clone, Copy, Debug, Default, PartialEq, Eq)]
 pub struct Written {
-    pub payload_bytes: u32,
-    pub programmed_bytes: u32,
-    pub program_operations: u32,
-    pub barriers: u32,
+    pub payload_bytes: u64,
+    pub programmed_bytes: u64,
+    pub program_operations: u64,
+    pub barriers: u64,
+    pub uncommitted_appends: u64,
 }
 
 #[repr(C)]
@@ -212,6 +213,15 @@ extern "C" {
         page: *mut u8,
         page_len: usize,
     ) -> Opening;
+    pub fn jardolento_open_with(
+        written: Written,
+        program_size: usize,
+        read_size: usize,
+        region: *const u8,
+        region_len: usize,
+        page: *mut u8,
+        page_len: usize,
+    ) -> Opening;
 
     pub fn jardolento_stage(
         journal: Journal,
@@ -227,5 +237,5 @@ extern "C" {
     pub fn jardolento_commit(journal: Journal, region: *mut u8, region_len: usize) -> Advanced;
 
     pub fn jardolento_written_plus(x: Written, y: Written) -> Written;
-    pub fn jardolento_overhead_bytes(written: Written) -> u32;
+    pub fn jardolento_overhead_bytes(written: Written) -> u64;
 }

@@ -43,6 +43,8 @@ pub enum Refusal {
     NotARecord,
     /// A byte where the record is to go is not 0xFF, the first at this offset.
     NotErased { place: u32 },
+    /// A count to go on from is above 2 to the 62nd.
+    CountTooLarge,
 }
 
 impl Refusal {
@@ -72,6 +74,7 @@ impl Refusal {
             (14, None) => Self::OutOfOrder,
             (15, None) => Self::NotARecord,
             (18, Some(place)) => Self::NotErased { place },
+            (24, None) => Self::CountTooLarge,
             (other, place) => panic!("the library answered refusal {other} with place {place:?}, which there is not"),
         })
     }
@@ -103,6 +106,7 @@ impl Refusal {
             Self::OutOfOrder => 14,
             Self::NotARecord => 15,
             Self::NotErased { .. } => 18,
+            Self::CountTooLarge => 24,
         }
     }
 
@@ -140,6 +144,7 @@ impl Refusal {
             Self::OutOfOrder => "the step is not the one that follows",
             Self::NotARecord => "kind, sequence or free bytes make no record",
             Self::NotErased { .. } => "a byte where the record is to go is not 0xFF",
+            Self::CountTooLarge => "a count to go on from is above 2 to the 62nd",
         }
     }
 }

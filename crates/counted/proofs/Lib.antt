@@ -1,0 +1,2 @@
+-- The theorem on the counts.
+pub mod Counting
