@@ -28,7 +28,7 @@ use Rattle.recovery.specs.Next.{walk_from, page_after, before, step, fresh}
 use Rattle.finish.specs.Finish.{to_end, founds}
 use Rattle.find.specs.Find.{carries, kept, latest, find_in}
 use Rattle.counts.specs.declared.WriteAmplification.{WriteAmplification}
-use Rattle.counts.specs.Counts.{counts, unwritten}
+use Rattle.counts.specs.Counts.{counts, unwritten, largest_handed}
 use Rattle.journal.specs.declared.Journal.{Journal}
 use Rattle.journal.specs.Opening.{idle, opened, opened_with}
 use Rattle.progress.specs.Phases.{StepLeft, on_device, is_next, confirmed, under_way}
@@ -78,10 +78,7 @@ at_scan a o j = step_refusal (step_of (record { align = a; offset = o; stopped =
 abbrev at_open : ℕ → ℕ → List ℕ → ℕ → Numbered
 at_open a r region page = refusal_of (opened a r region (replicate page 0)).opening
 
--- the same of an opening from counts, of which `edge` is the largest that it takes
-abbrev edge : ℕ
-edge = 4611686018427387904
-
+-- the same of an opening from counts
 abbrev at_open_with : WriteAmplification → ℕ → ℕ → List ℕ → ℕ → Numbered
 at_open_with w a r region page = refusal_of (opened_with w a r region (replicate page 0)).opening
 
@@ -161,14 +158,14 @@ table =
     ∷ gives (at_open 3 1 whole 20) 1 0 0
     ∷ gives (at_open 4 16 (blank 40) 15) 3 16 0
     ∷ gives (at_open 4 1 (loose 7) 20) 11 0 0
-    ∷ gives (at_open_with (counts edge edge edge edge edge) 4 1 whole 20) 0 0 0
-    ∷ gives (at_open_with (counts (edge + 1) 0 0 0 0) 4 1 whole 20) 24 0 0
-    ∷ gives (at_open_with (counts 0 (edge + 1) 0 0 0) 4 1 whole 20) 24 0 0
-    ∷ gives (at_open_with (counts 0 0 (edge + 1) 0 0) 4 1 whole 20) 24 0 0
-    ∷ gives (at_open_with (counts 0 0 0 (edge + 1) 0) 4 1 whole 20) 24 0 0
-    ∷ gives (at_open_with (counts 0 0 0 0 (edge + 1)) 4 1 whole 20) 24 0 0
-    ∷ gives (at_open_with (counts 0 0 0 0 (edge + 1)) 3 1 whole 20) 1 0 0
-    ∷ gives (at_open_with (counts 0 0 0 0 (edge + 1)) 4 16 (blank 40) 15) 24 0 0
+    ∷ gives (at_open_with (counts largest_handed largest_handed largest_handed largest_handed largest_handed) 4 1 whole 20) 0 0 0
+    ∷ gives (at_open_with (counts (largest_handed + 1) 0 0 0 0) 4 1 whole 20) 24 0 0
+    ∷ gives (at_open_with (counts 0 (largest_handed + 1) 0 0 0) 4 1 whole 20) 24 0 0
+    ∷ gives (at_open_with (counts 0 0 (largest_handed + 1) 0 0) 4 1 whole 20) 24 0 0
+    ∷ gives (at_open_with (counts 0 0 0 (largest_handed + 1) 0) 4 1 whole 20) 24 0 0
+    ∷ gives (at_open_with (counts 0 0 0 0 (largest_handed + 1)) 4 1 whole 20) 24 0 0
+    ∷ gives (at_open_with (counts 0 0 0 0 (largest_handed + 1)) 3 1 whole 20) 1 0 0
+    ∷ gives (at_open_with (counts 0 0 0 0 (largest_handed + 1)) 4 16 (blank 40) 15) 24 0 0
     ∷ gives (at_find 4 1 whole 20) 0 0 0
     ∷ gives (at_find 4 1 [] 0) 0 0 0
     ∷ gives (at_find 3 1 whole 20) 1 0 0

@@ -18,7 +18,7 @@ use Rattle.storage.proofs.Units.{limits}
 use Rattle.frame.specs.Lengths.{body_len, record_len}
 use Rattle.frame.proofs.Sizes.{body_least}
 use Rattle.counts.specs.declared.WriteAmplification.{WriteAmplification}
-use Rattle.counts.specs.Counts.{up_to, may_go_on}
+use Rattle.counts.specs.Counts.{up_to, largest_handed, may_go_on}
 use Rattle.journal.specs.declared.Journal.{Journal}
 use Rattle.journal.specs.Opening.{idle}
 use Rattle.journal.proofs.Openings.{OpenedIs, opened_is}
@@ -56,7 +56,7 @@ is_each : (n : ℕ) (v : WriteAmplification) → Each n v → up_to n v ≡ true
 is_each n v h = rw (le-leb _ _ h.payload, le-leb _ _ h.programmed, le-leb _ _ h.operations, le-leb _ _ h.barriers, le-leb _ _ h.uncommitted) refl
 
 -- from the counts w and the offset o
-module _ (w : WriteAmplification) (o : ℕ) (low : Each 4611686018427387904 w) where
+module _ (w : WriteAmplification) (o : ℕ) (low : Each largest_handed w) where
   -- how far the journal has come, in bytes
   abbrev way : Journal → ℕ
   way k = (k.offset - o) + k.body_len
@@ -174,7 +174,7 @@ module _ (w : WriteAmplification) (o : ℕ) (low : Each 4611686018427387904 w) w
         programmed = omega (arith, e, body, h.programmed);
         uncommitted = omega (arith, none, h.uncommitted);
         short =
-            is_each (4611686018427387904 + 16777216) k.written
+            is_each _ k.written
             (record {
               payload = omega (arith, h.payload, h.within, u.size, low.payload);
               programmed = omega (arith, h.programmed, h.within, u.size, low.programmed);
@@ -204,6 +204,6 @@ module _ (w : WriteAmplification) (o : ℕ) (low : Each 4611686018427387904 w) w
 pub counts_have_grown : Theorem
 counts_have_grown w a r s page page' j i es k t l =
     let n : OpenedIs w a r (length s) j = opened_is w a r s page j (sym (ap (λ x. x.opening) i.all)) in
-    let low : Each 4611686018427387904 w = each_is 4611686018427387904 w n.counts in
+    let low : Each largest_handed w = each_is largest_handed w n.counts in
     let here : Sums w j.offset low j = subst (Sums w j.offset low) (sym n.is) (first w j.offset low a r (length s) j n) in
     grown w j.offset low j k refl (along Anything (P w j.offset low) (counted w j.offset low) j k s t es here l)

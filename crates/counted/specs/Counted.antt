@@ -4,7 +4,7 @@
 -- w are the counts that the opening was handed, j its journal, k the journal after the list.
 use Rattle.std.specs.Prelude.{◌≡◌, true, cond, List, ℕ, ◌+◌, ◌-◌, ◌≤◌, eqb, Ok}
 use Rattle.counts.specs.declared.WriteAmplification.{WriteAmplification}
-use Rattle.counts.specs.Counts.{up_to}
+use Rattle.counts.specs.Counts.{up_to, largest_handed}
 use Rattle.journal.specs.declared.Journal.{Journal}
 use Rattle.journal.specs.Opening.{Opens}
 use Rattle.foreign.specs.Steps.{Event, Leads}
@@ -31,7 +31,7 @@ pub record Grown (w : WriteAmplification) (j k : Journal) : Type 0 where
   pub uncommitted : k.written.uncommitted_appends ≡ w.uncommitted_appends + under_way k
   -- no count has stopped: an opening takes 2 to the 62nd at most in each, and none grows by more than 2 to the 24th, the
   -- longest region
-  pub short : up_to (4611686018427387904 + 16777216) k.written ≡ true
+  pub short : up_to (largest_handed + 16777216) k.written ≡ true
 
 -- the theorem, proved in `proofs/Counting.antt`
 abbrev pub Theorem : Type 0

@@ -7,7 +7,8 @@ use Rattle.waymaker_core.specs.declared.error.Refusal.TheVariants.{NoRoom, OutOf
 use Rattle.storage.specs.Media.{programmed}
 use Rattle.frame.specs.Lengths.{body_len}
 use Rattle.frame.specs.Format.{seal_of}
-use Rattle.counts.specs.Counts.{counts}
+use Rattle.counts.specs.declared.WriteAmplification.{WriteAmplification}
+use Rattle.counts.specs.Counts.{counts, largest_handed}
 use Rattle.staging.specs.Stage.{check_for}
 use Rattle.claim.specs.Saying.{Given, payload_for}
 use Rattle.claim.specs.Events.{barrier, commit, nothing}
@@ -30,9 +31,9 @@ partly k s t = take k t ++ drop k s
 abbrev pub but_bit : ℕ → ℕ → List ℕ → List ℕ
 but_bit i b t = take i t ++ (get_or t i 0 + b) ∷ drop (i + 1) t
 
--- the largest count that an opening takes
-abbrev pub edge : ℕ
-edge = 4611686018427387904
+-- five counts alike
+abbrev pub all_are : ℕ → WriteAmplification
+all_are n = counts n n n n n
 
 -- # The rows
 
@@ -78,9 +79,9 @@ reopening =
     ∷ refused an_opening NotAppendable ∷ refused an_opening NotAppendable ∷ [])
     false nothing []
     -- from counts of 2 to the 62nd; and from one above that, which is refused
-    ∷ row (goes (opening_from (counts edge edge edge edge edge)) ∷ appends fired) true nothing (fired ∷ [])
-    ∷ row (goes an_opening ∷ appends fired ++ refused (opening_from (counts 0 0 0 0 (edge + 1))) CountTooLarge
-    ∷ refused (opening_from (counts (edge + 1) 0 0 0 0)) CountTooLarge ∷ goes an_opening ∷ appends armed)
+    ∷ row (goes (opening_from (all_are largest_handed)) ∷ appends fired) true nothing (fired ∷ [])
+    ∷ row (goes an_opening ∷ appends fired ++ refused (opening_from (counts 0 0 0 0 (largest_handed + 1))) CountTooLarge
+    ∷ refused (opening_from (counts (largest_handed + 1) 0 0 0 0)) CountTooLarge ∷ goes an_opening ∷ appends armed)
     true nothing (fired ∷ armed ∷ [])
     ∷ []
 
