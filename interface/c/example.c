@@ -1,10 +1,12 @@
 /* An example of the journal's calls: lists what an image holds, appends one record in memory, and lists again.
  *
  *     cc -std=c99 example.c -L ../../crates/jardolento/out -l jardolento -o example
- *     ./example ../../examples/update.img [changed.img]
+ *     ./example ../../examples/update.img [changed.img [counts]]
  *
  * An image is a line with the program unit and the read unit, `4,1` say, and then the bytes of the region. The file
- * that is read stays as it is; a second name, if given, is where the changed image goes.
+ * that is read stays as it is; a second name, if given, is where the changed image goes. A third is that of the counts,
+ * which go on from run to run: five numbers in a line, in the order of struct jardolento_written. They are read where
+ * there is such a file, and written after stage and after commit.
  */
 #include "jardolento.h"
 
@@ -17,8 +19,8 @@
 #define LONGEST 32768
 
 struct image {
-    size_t program_size;
-    size_t read_size;
+    uint64_t program_size;
+    uint64_t read_size;
     size_t len;
     uint8_t region[LONGEST];
 };
@@ -41,6 +43,7 @@ static const char *const reasons[] = {
     "the step is not the one that follows",
     "kind, sequence or free bytes make no record",
     [JARDOLENTO_NOT_ERASED] = "a byte where the record is to go is not 0xFF",
+    [JARDOLENTO_COUNT_TOO_LARGE] = "a count to go on from is above 2 to the 62nd",
 };
 
 static const char *reason(struct jardolento_refused refused)
@@ -69,19 +72,29 @@ static int is_refused(const char *call, struct jardolento_refused refused)
     return 1;
 }
 
-/* Reads digits without a leading zero, and the byte that ends them. Which units will do, the journal says. */
-static int read_unit(FILE *file, int end, size_t *unit)
+/* Says what is wrong with a file, and answers 0, as the caller does. */
+static int faulty(const char *path, const char *fault)
+{
+    fflush(stdout);
+    fprintf(stderr, "%s: %s\n", path, fault);
+    return 0;
+}
+
+/* Reads a number without leading zeros, and the byte that ends it. Which numbers will do, the journal says. */
+static int read_number(FILE *file, int end, uint64_t *number)
 {
     int c = fgetc(file);
+    int is_first = 1;
 
-    if (c < '1' || c > '9')
-        return 0;
-    for (*unit = 0; c >= '0' && c <= '9'; c = fgetc(file)) {
-        if (*unit >= 10000)
+    for (*number = 0; c >= '0' && c <= '9'; c = fgetc(file)) {
+        unsigned digit = (unsigned)(c - '0');
+
+        if (*number > (UINT64_MAX - digit) / 10 || (*number == 0 && !is_first))
             return 0;
-        *unit = *unit * 10 + (size_t)(c - '0');
+        *number = *number * 10 + digit;
+        is_first = 0;
     }
-    return c == end;
+    return c == end && !is_first;
 }
 
 static int read_image(const char *path, struct image *image)
@@ -89,11 +102,9 @@ static int read_image(const char *path, struct image *image)
     FILE *file = fopen(path, "rb");
     const char *fault = NULL;
 
-    if (file == NULL) {
-        fprintf(stderr, "%s: %s\n", path, strerror(errno));
-        return 0;
-    }
-    if (!read_unit(file, ',', &image->program_size) || !read_unit(file, '\n', &image->read_size)) {
+    if (file == NULL)
+        return faulty(path, strerror(errno));
+    if (!read_number(file, ',', &image->program_size) || !read_number(file, '\n', &image->read_size)) {
         fault = "the first line is not two units, as in 4,1";
     } else {
         image->len = fread(image->region, 1, LONGEST, file);
@@ -103,9 +114,7 @@ static int read_image(const char *path, struct image *image)
             fault = "the region is longer than 32768 bytes";
     }
     fclose(file);
-    if (fault != NULL)
-        fprintf(stderr, "%s: %s\n", path, fault);
-    return fault == NULL;
+    return fault == NULL || faulty(path, fault);
 }
 
 static const char *ending_name(uint8_t ending)
@@ -155,15 +164,56 @@ static uint32_t list(const struct image *image, uint8_t *page)
     return highest;
 }
 
+/* The counts to go on from: all 0 where no file is named, or there is none yet. */
+static int read_counts(const char *path, struct jardolento_written *written)
+{
+    FILE *file;
+    int good;
+
+    if (path == NULL)
+        return 1;
+    file = fopen(path, "rb");
+    if (file == NULL)
+        return errno == ENOENT || faulty(path, strerror(errno));
+    good = read_number(file, ' ', &written->payload_bytes) && read_number(file, ' ', &written->programmed_bytes) &&
+           read_number(file, ' ', &written->program_operations) && read_number(file, ' ', &written->barriers) &&
+           read_number(file, '\n', &written->uncommitted_appends);
+    fclose(file);
+    return good || faulty(path, "the first line is not five counts, as in 2 24 2 2 0");
+}
+
+/* Keeps the counts, where a file is named. A box sees to it that a cut leaves the old ones or the new. */
+static int write_counts(const char *path, const struct jardolento_written *written)
+{
+    FILE *file;
+    int good;
+
+    if (path == NULL)
+        return 1;
+    file = fopen(path, "wb");
+    good = file != NULL;
+    if (good) {
+        good = fprintf(file, "%" PRIu64 " %" PRIu64 " %" PRIu64 " %" PRIu64 " %" PRIu64 "\n", written->payload_bytes,
+                       written->programmed_bytes, written->program_operations, written->barriers,
+                       written->uncommitted_appends) > 0;
+        good = fclose(file) == 0 && good;
+    }
+    return good || faulty(path, strerror(errno));
+}
+
 /* Appends an effect completed. The record counts once its commit has been made. */
-static int append(struct image *image, uint8_t *page, uint32_t seq)
+static int append(struct image *image, uint8_t *page, uint32_t seq, const char *counts)
 {
     static const uint8_t result[] = {'o', 'k'};
+    struct jardolento_written written = {0};
     struct jardolento_record record = {0};
     struct jardolento_opening opening;
     struct jardolento_advanced step;
 
-    opening = jardolento_open(image->program_size, image->read_size, image->region, image->len, page, LONGEST);
+    if (!read_counts(counts, &written))
+        return 0;
+    opening = jardolento_open_with(written, image->program_size, image->read_size, image->region, image->len, page,
+                                   LONGEST);
     if (is_refused("open", opening.refused))
         return 0;
 
@@ -172,15 +222,18 @@ static int append(struct image *image, uint8_t *page, uint32_t seq)
     step = jardolento_stage(opening.journal, record, result, sizeof result, image->region, image->len, page, LONGEST);
     if (is_refused("stage", step.refused))
         return 0;
+    /* Kept before the body goes to a device, so that an append which a cut takes is among those not committed. */
+    if (!write_counts(counts, &step.journal.written))
+        return 0;
     /* Where the region is a device, wait here until it holds the body, and after the commit until it holds the seal. */
     step = jardolento_payload_barrier(step.journal, image->region, image->len);
     if (is_refused("payload barrier", step.refused))
         return 0;
     step = jardolento_commit(step.journal, image->region, image->len);
-    if (is_refused("commit", step.refused))
+    if (is_refused("commit", step.refused) || !write_counts(counts, &step.journal.written))
         return 0;
 
-    printf("appended at %" PRIu32 ": %" PRIu32 " bytes, %" PRIu32 " of them payload\n", opening.journal.offset,
+    printf("appended at %" PRIu32 ": %" PRIu64 " bytes, %" PRIu64 " of them payload\n", opening.journal.offset,
            step.written.programmed_bytes, step.written.payload_bytes);
     return 1;
 }
@@ -191,13 +244,11 @@ static int write_image(const char *path, const struct image *image)
     int good = file != NULL;
 
     if (good) {
-        good = fprintf(file, "%zu,%zu\n", image->program_size, image->read_size) > 0;
+        good = fprintf(file, "%" PRIu64 ",%" PRIu64 "\n", image->program_size, image->read_size) > 0;
         good = fwrite(image->region, 1, image->len, file) == image->len && good;
         good = fclose(file) == 0 && good;
     }
-    if (!good)
-        fprintf(stderr, "%s: %s\n", path, strerror(errno));
-    return good;
+    return good || faulty(path, strerror(errno));
 }
 
 int main(int argc, char **argv)
@@ -206,17 +257,17 @@ int main(int argc, char **argv)
     static uint8_t page[LONGEST];
     uint32_t highest;
 
-    if (argc != 2 && argc != 3) {
-        fprintf(stderr, "usage: example IMAGE [CHANGED]\n");
+    if (argc < 2 || argc > 4) {
+        fprintf(stderr, "usage: example IMAGE [CHANGED [COUNTS]]\n");
         return 1;
     }
     if (!read_image(argv[1], &image))
         return 1;
     highest = list(&image, page);
-    if (!append(&image, page, highest + 1))
+    if (!append(&image, page, highest + 1, argc == 4 ? argv[3] : NULL))
         return 1;
     list(&image, page);
-    if (argc == 3 && !write_image(argv[2], &image))
+    if (argc > 2 && !write_image(argv[2], &image))
         return 1;
     return 0;
 }

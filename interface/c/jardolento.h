@@ -38,8 +38,8 @@ extern "C" {
 
 /* Why a call declined. number is 0 where it did not. needed and available come with refusals 3 and 13. Where has_place
  * is 1, place is the offset of the first byte that is not 0xFF where all were to be: from the region's start, in a scan
- * from its slice's. It comes with each 18; with a 9 of a recovery or a scan behind twelve erased bytes; and with a 10 of
- * theirs for kinds 3, 4 and 6, which would be skipped but for this byte. Else both are 0. */
+ * from its slice's. It comes with each 18; with a 9 of a recovery or a scan behind twelve erased bytes; and with a 10
+ * of theirs for kinds 3, 4 and 6, which would be skipped but for this byte. Else both are 0. */
 struct jardolento_refused {
     uint8_t number;
     uint8_t has_place;
@@ -64,7 +64,8 @@ enum {
     JARDOLENTO_MALFORMED = 8,
     /* the first two bytes or a check do not match; with a place, erased bytes, and behind them one that is not */
     JARDOLENTO_INTEGRITY_FAILED = 9,
-    /* an intact frame that no seal says was committed; with a place, one that a byte behind it keeps from being skipped */
+    /* an intact frame that no seal says was committed; with a place, one that a byte behind it keeps from being
+     * skipped */
     JARDOLENTO_UNSEALED = 10,
     JARDOLENTO_NOT_APPENDABLE = 11,     /* recovery ended elsewhere than at erased bytes */
     JARDOLENTO_INTERRUPTED = 12,        /* an append is under way, and another one may not begin */
@@ -200,17 +201,19 @@ struct jardolento_scan_step {
     struct jardolento_found found;
 };
 
-/* What was written; each count stops at 4,294,967,295. */
+/* What was written; each count stops at 18,446,744,073,709,551,615, 2 to the 64th less 1. */
 struct jardolento_written {
     uint64_t payload_bytes;
     uint64_t programmed_bytes;
     uint64_t program_operations;
     uint64_t barriers;
-    uint64_t uncommitted_appends; /* staged and not committed: one while a record is under way */
+    /* one more from stage on, one fewer from commit on: so one more while a record is under way, and for good where its
+     * commit never answered */
+    uint64_t uncommitted_appends;
 };
 
-/* Where the next record goes, what is under way, and what was written: since the opening, and before it as far as the
- * opening was handed that. */
+/* Where the next record goes, what is under way, and what was written: since the opening, and the counts that it was
+ * handed. */
 struct jardolento_journal {
     struct jardolento_geometry geometry;
     uint32_t offset;
@@ -228,7 +231,7 @@ struct jardolento_opening {
 };
 
 /* Where it is refused, the journal is the one that was given. written is what this record alone wrote; only commit
- * says it, with no append left uncommitted. */
+ * says it, and it has no uncommitted append. */
 struct jardolento_advanced {
     struct jardolento_journal journal;
     struct jardolento_refused refused;
@@ -299,9 +302,10 @@ struct jardolento_finding jardolento_find(uint32_t seq, size_t program_size, siz
 struct jardolento_opening jardolento_open(size_t program_size, size_t read_size, const uint8_t *region,
                                           size_t region_len, uint8_t *page, size_t page_len);
 
-/* The same, and the counts go on from these, so that they count for the box's whole life: hand over those of the last
- * journal, kept where the box likes. Each is 4,611,686,018,427,387,904 at most, 2 to the 62nd, or it is refused before
- * anything is read: then no count stops before the next opening. */
+/* The same, and the journal's counts go on from these, so that they count for the box's whole life: keep those of the
+ * journal after each stage and each commit, and hand them over at the next start. Where one of the five is above
+ * 4,611,686,018,427,387,904, 2 to the 62nd, refusal 24 comes, behind 1 and before anything is read; so no count stops
+ * before the next opening. */
 struct jardolento_opening jardolento_open_with(struct jardolento_written written, size_t program_size,
                                                size_t read_size, const uint8_t *region, size_t region_len,
                                                uint8_t *page, size_t page_len);
@@ -309,7 +313,8 @@ struct jardolento_opening jardolento_open_with(struct jardolento_written written
 /* The steps of an append: stage programs the body and leaves the whole record in the page; the payload barrier
  * confirms it; commit programs the seal. Stage looks first: where a byte that the record is to take, slot included, is
  * not 0xFF, it refuses, so that what something else has written there stays. After stage and after commit the caller
- * waits until what was programmed is on flash. Both store into the region: where it is mapped read-only they fault, and README.md says what to do then. */
+ * waits until what was programmed is on flash. Both store into the region: where it is mapped read-only they fault, and
+ * README.md says what to do then. */
 struct jardolento_advanced jardolento_stage(struct jardolento_journal journal, struct jardolento_record record,
                                             const uint8_t *free, size_t free_len, uint8_t *region, size_t region_len,
                                             uint8_t *page, size_t page_len);

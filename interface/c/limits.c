@@ -1,4 +1,5 @@
-/* Tries the calls at their limits: settings, seals, pages, refusals 5 and 18, and loops over what is refused.
+/* Tries the calls at their limits: settings, seals, pages, refusals 5, 18 and 24, counts, and loops over what is
+ * refused.
  *
  *     cc -std=c99 limits.c -L ../../crates/jardolento/out -l jardolento -o limits
  *     ./limits
@@ -11,6 +12,9 @@
 #include <string.h>
 
 #define CHECK(holds) check((holds), #holds, __LINE__)
+
+/* The largest count that an opening goes on from. */
+#define MOST ((uint64_t)1 << 62)
 
 static int failed;
 
@@ -199,6 +203,109 @@ static void places(void)
     CHECK(is_at(first_scan_refusal(region, sizeof region), JARDOLENTO_INTEGRITY_FAILED, 0, 0));
 }
 
+/* In the header's order. */
+static struct jardolento_written counts(uint64_t payload, uint64_t programmed, uint64_t operations, uint64_t barriers,
+                                        uint64_t uncommitted)
+{
+    struct jardolento_written written;
+
+    written.payload_bytes = payload;
+    written.programmed_bytes = programmed;
+    written.program_operations = operations;
+    written.barriers = barriers;
+    written.uncommitted_appends = uncommitted;
+    return written;
+}
+
+static int are(struct jardolento_written x, struct jardolento_written y)
+{
+    return memcmp(&x, &y, sizeof x) == 0;
+}
+
+/* A single count above the most is refused, behind 1 and before 3, and the page stays. */
+static void counts_handed(void)
+{
+    struct jardolento_written most = counts(MOST, MOST, MOST, MOST, MOST);
+    struct jardolento_opening opening;
+    uint8_t region[20];
+    uint8_t page[20] = {0};
+    size_t n;
+
+    memset(region, 0xFF, sizeof region);
+    for (n = 0; n < 5; n++) {
+        uint64_t each[5] = {MOST, MOST, MOST, MOST, MOST};
+        struct jardolento_written above;
+
+        each[n] += 1;
+        above = counts(each[0], each[1], each[2], each[3], each[4]);
+        opening = jardolento_open_with(above, 4, 1, region, sizeof region, page, sizeof page);
+        CHECK(opening.refused.number == JARDOLENTO_COUNT_TOO_LARGE);
+        CHECK(opening.journal.geometry.bytes == 0 && are(opening.journal.written, counts(0, 0, 0, 0, 0)));
+        CHECK(page[0] == 0 && memcmp(page, page + 1, sizeof page - 1) == 0);
+        opening = jardolento_open_with(above, 3, 1, region, sizeof region, page, sizeof page);
+        CHECK(opening.refused.number == JARDOLENTO_SETTINGS);
+        opening = jardolento_open_with(above, 4, 1, region, sizeof region, page, 0);
+        CHECK(opening.refused.number == JARDOLENTO_COUNT_TOO_LARGE);
+    }
+    opening = jardolento_open_with(most, 4, 1, region, sizeof region, page, 0);
+    CHECK(opening.refused.number == JARDOLENTO_PAGE_TOO_SMALL);
+    opening = jardolento_open_with(most, 4, 1, region, sizeof region, page, sizeof page);
+    CHECK(opening.refused.number == 0 && are(opening.journal.written, most));
+    CHECK(page[0] == 0xFF);
+}
+
+/* A journal that had these counts, with a record of 20 bytes staged. */
+static struct jardolento_journal staged(struct jardolento_written written, uint8_t region[20])
+{
+    static const uint8_t free[1];
+    struct jardolento_record record = {0};
+    struct jardolento_journal journal;
+    uint8_t page[20];
+
+    memset(region, 0xFF, 20);
+    journal = jardolento_open(4, 1, region, 20, page, sizeof page).journal;
+    CHECK(are(journal.written, counts(0, 0, 0, 0, 0)));
+    journal.written = written;
+    record.kind = JARDOLENTO_TIMER_FIRED;
+    return jardolento_stage(journal, record, free, 0, region, 20, page, sizeof page).journal;
+}
+
+/* The journal's counts behind that record's commit, which answers the record's own, whatever the journal's were. */
+static struct jardolento_written committed(struct jardolento_journal journal, uint8_t region[20])
+{
+    struct jardolento_advanced step = jardolento_payload_barrier(journal, region, 20);
+
+    step = jardolento_commit(step.journal, region, 20);
+    CHECK(step.refused.number == 0 && are(step.written, counts(0, 20, 2, 2, 0)));
+    return step.journal.written;
+}
+
+/* Counts go up and stop, and the last goes down and not below 0, where C made that up. */
+static void counts_kept(void)
+{
+    const uint64_t end = UINT64_MAX;
+    struct jardolento_journal journal;
+    uint8_t region[20];
+
+    journal = staged(counts(1, 2, 3, 4, 5), region);
+    CHECK(are(journal.written, counts(1, 18, 4, 4, 6)));
+    CHECK(are(committed(journal, region), counts(1, 22, 5, 6, 5)));
+
+    journal = staged(counts(0, 0, 0, 0, 0), region);
+    journal.written.uncommitted_appends = 0;
+    CHECK(are(committed(journal, region), counts(0, 20, 2, 2, 0)));
+
+    journal = staged(counts(end, end - 19, end - 1, end - 1, end), region);
+    CHECK(are(journal.written, counts(end, end - 3, end, end - 1, end)));
+    CHECK(are(committed(journal, region), counts(end, end, end, end, end - 1)));
+
+    CHECK(are(jardolento_written_plus(counts(end, 1, end, 3, end), counts(1, end, end, 4, 0)),
+              counts(end, end, end, 7, end)));
+    CHECK(are(jardolento_written_plus(counts(0, 0, 0, 0, end), counts(0, 0, 0, 0, 1)), counts(0, 0, 0, 0, end)));
+    CHECK(jardolento_overhead_bytes(counts(1, end, 0, 0, 0)) == end - 1);
+    CHECK(jardolento_overhead_bytes(counts(2, 1, 0, 0, 0)) == 0);
+}
+
 int main(void)
 {
     char version[32];
@@ -210,5 +317,7 @@ int main(void)
     loops();
     pages();
     places();
+    counts_handed();
+    counts_kept();
     return failed;
 }

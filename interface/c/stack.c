@@ -108,7 +108,12 @@ static void opening(void)
     journal = jardolento_open(4, 1, region, sizeof region, page, sizeof page).journal;
 }
 
-/* Goes on from the journal that the opening gave. */
+static void opening_with(void)
+{
+    journal = jardolento_open_with(journal.written, 4, 1, region, sizeof region, page, sizeof page).journal;
+}
+
+/* Goes on from the journal that the last opening gave. */
 static void append(void)
 {
     struct jardolento_advanced step;
@@ -145,8 +150,14 @@ int main(void)
         const char *name;
         void (*call)(void);
     } calls[] = {
-        {"encode", encode}, {"decode", decode}, {"scan_next", scan}, {"recovery_next", recovery},
-        {"find", find},     {"open", opening},  {"stage, payload_barrier, commit", append},
+        {"encode", encode},
+        {"decode", decode},
+        {"scan_next", scan},
+        {"recovery_next", recovery},
+        {"find", find},
+        {"open", opening},
+        {"open_with", opening_with},
+        {"stage, payload_barrier, commit", append},
     };
     size_t n;
     int status = 0;

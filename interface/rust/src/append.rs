@@ -4,7 +4,8 @@ use crate::ffi;
 use crate::record::Given;
 use crate::refusal::Refusal;
 
-/// What was written; each count stops at the largest 64-bit number.
+/// What was written; each count stops at [`u64::MAX`]. `uncommitted_appends` is one more from stage on and one fewer
+/// from commit on: so one more while a record is under way, and for good where its commit never answered.
 pub type Written = ffi::Written;
 
 impl Written {
@@ -49,8 +50,9 @@ impl Journal {
         Refusal::unless(opening.refused, Self(opening.journal))
     }
 
-    /// The same, and the counts go on from these, so that they count for the box's whole life: hand over those of the
-    /// last journal, kept where the box likes. Each is 2 to the 62nd at most, or it is refused before anything is read.
+    /// The same, and the journal's counts go on from these, so that they count for the box's whole life: keep
+    /// [`Journal::written`] after each stage and each commit, and hand it over at the next start. A count above 2 to
+    /// the 62nd is refused before anything is read; so none stops before the next opening.
     pub fn open_with(
         written: Written,
         program_size: usize,
@@ -116,7 +118,7 @@ impl Journal {
         self.0.offset
     }
 
-    /// What was written: since the opening, and before it as far as the opening was handed that.
+    /// What was written: since the opening, and the counts that it was handed.
     pub fn written(&self) -> Written {
         self.0.written
     }

@@ -5,7 +5,7 @@
 //! ```
 //! use jardolento::{Journal, RecordRef, Refusal};
 //!
-//! fn append(region: &mut [u8], page: &mut [u8]) -> Result<u32, Refusal> {
+//! fn append(region: &mut [u8], page: &mut [u8]) -> Result<u64, Refusal> {
 //!     let mut journal = Journal::open(4, 1, region, page)?;
 //!     journal.stage(RecordRef::EffectCompleted { seq: 1, result: b"ok" }, region, page)?;
 //!     journal.payload_barrier(region)?;

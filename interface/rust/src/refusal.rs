@@ -28,8 +28,8 @@ pub enum Refusal {
     /// The first two bytes or a check do not match; with a `place`, erased bytes, and behind them one that is not, the
     /// first at this offset.
     IntegrityFailed { place: Option<u32> },
-    /// An intact frame that no seal says was committed; with a `place`, one that would be skipped, being of kind 3, 4 or
-    /// 6, but for the bytes behind it, of which the first that is not erased is at this offset.
+    /// An intact frame that no seal says was committed; with a `place`, one that would be skipped, being of kind 3, 4
+    /// or 6, but for the bytes behind it, of which the first that is not erased is at this offset.
     Unsealed { place: Option<u32> },
     /// Recovery ended elsewhere than at erased bytes.
     NotAppendable,
@@ -110,8 +110,8 @@ impl Refusal {
         }
     }
 
-    /// The offset of the first byte that is not 0xFF where all were to be, if that is why: from the region's start, in a
-    /// scan from its slice's.
+    /// The offset of the first byte that is not 0xFF where all were to be, if that is why: from the region's start, in
+    /// a scan from its slice's.
     pub const fn place(self) -> Option<u32> {
         match self {
             Self::IntegrityFailed { place } | Self::Unsealed { place } => place,

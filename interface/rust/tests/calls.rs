@@ -149,7 +149,7 @@ fn refusals_have_their_names_and_numbers() {
     assert_eq!(decode(&out[..11]), Err(Refusal::Truncated));
     let given = Given { record: ffi::Record { kind: 10, ..Default::default() }, free: b"" };
     assert_eq!(encoded_len(given, 4), Err(Refusal::NotARecord));
-    for number in (1..=15).chain([18]) {
+    for number in (1..=15).chain([18, 24]) {
         let refused = ffi::Refused { number, has_place: u8::from(number == 18), ..Default::default() };
         assert_eq!(Refusal::of(refused).unwrap().number(), number);
     }
@@ -256,11 +256,68 @@ fn a_refusal_says_which_byte_is_not_erased() {
     assert_eq!(refusal(&region), Some(Refusal::Unsealed { place: None }));
 }
 
+/// In the struct's order.
+fn written(counts: [u64; 5]) -> Written {
+    let [payload_bytes, programmed_bytes, program_operations, barriers, uncommitted_appends] = counts;
+    Written { payload_bytes, programmed_bytes, program_operations, barriers, uncommitted_appends }
+}
+
 #[test]
 fn counts_stop_and_add() {
-    let most = Written { payload_bytes: u32::MAX, programmed_bytes: 20, program_operations: 2, barriers: 2 };
-    let one = Written { payload_bytes: 1, programmed_bytes: 24, program_operations: 2, barriers: 2 };
-    let sum = Written { payload_bytes: u32::MAX, programmed_bytes: 44, program_operations: 4, barriers: 4 };
-    assert_eq!(most.plus(one), sum);
+    let most = written([u64::MAX, 20, 2, 2, u64::MAX]);
+    let one = written([1, 24, 2, 2, 1]);
+    assert_eq!(most.plus(one), written([u64::MAX, 44, 4, 4, u64::MAX]));
     assert_eq!((one.overhead_bytes(), most.overhead_bytes()), (23, 0));
+    assert_eq!(written([1, u64::MAX, 0, 0, 0]).overhead_bytes(), u64::MAX - 1);
+}
+
+#[test]
+fn an_opening_goes_on_from_counts_up_to_2_to_the_62nd() {
+    const MOST: u64 = 1 << 62;
+    let (region, mut page) = ([0xFF; 64], [0; 64]);
+    for place in 0..5 {
+        let mut counts = [MOST; 5];
+        counts[place] += 1;
+        let above = written(counts);
+        assert_eq!(Journal::open_with(above, 4, 1, &region, &mut page), Err(Refusal::CountTooLarge));
+        assert_eq!(Journal::open_with(above, 3, 1, &region, &mut page), Err(Refusal::Settings));
+        assert_eq!(Journal::open_with(above, 4, 1, &region, &mut []), Err(Refusal::CountTooLarge));
+        assert_eq!(page, [0; 64]);
+    }
+    let most = written([MOST; 5]);
+    assert_eq!(Journal::open_with(most, 4, 1, &region, &mut []), Err(Refusal::PageTooSmall { needed: 12 }));
+    assert_eq!(Journal::open_with(most, 4, 1, &region, &mut page).unwrap().written(), most);
+    assert_eq!(page, [0xFF; 64]);
+    let refusal = Refusal::CountTooLarge;
+    assert_eq!((refusal.number(), refusal.place()), (24, None));
+    assert_eq!(refusal.to_string(), "refusal 24: a count to go on from is above 2 to the 62nd");
+}
+
+#[test]
+fn counts_go_on_over_openings() {
+    let (mut region, mut page) = ([0xFF; 64], [0; 64]);
+    let fired = RecordRef::TimerFired { seq: 7 };
+    let mut journal = Journal::open_with(written([1, 2, 3, 4, 5]), 4, 1, &region, &mut page).unwrap();
+    journal.stage(fired, &mut region, &mut page).unwrap();
+    assert_eq!(journal.written(), written([1, 18, 4, 4, 6]));
+    // The append is given up, and stays one that was not committed; the record is skipped.
+    let mut journal = Journal::open_with(journal.written(), 4, 1, &region, &mut page).unwrap();
+    journal.stage(fired, &mut region, &mut page).unwrap();
+    assert_eq!(journal.written(), written([1, 34, 5, 4, 7]));
+    journal.payload_barrier(&region).unwrap();
+    assert_eq!(journal.commit(&mut region), Ok(written([0, 20, 2, 2, 0])));
+    assert_eq!((journal.offset(), journal.written()), (40, written([1, 38, 6, 6, 6])));
+    // An opening without counts starts at zero.
+    assert_eq!(Journal::open(4, 1, &region, &mut page).unwrap().written(), Written::default());
+}
+
+#[test]
+fn no_count_goes_below_zero() {
+    let (mut region, mut page) = ([0xFF; 64], [0; 64]);
+    let mut journal = Journal::open(4, 1, &region, &mut page).unwrap();
+    journal.stage(RecordRef::TimerFired { seq: 7 }, &mut region, &mut page).unwrap();
+    journal.0.written = Written::default();
+    journal.payload_barrier(&region).unwrap();
+    journal.commit(&mut region).unwrap();
+    assert_eq!(journal.written(), written([0, 4, 1, 2, 0]));
 }

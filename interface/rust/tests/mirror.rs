@@ -143,7 +143,7 @@ fn upper(value: impl Debug) -> String {
 
 #[test]
 fn numbers_are_the_headers() {
-    let refusals = (1..=15).chain([18]).map(|number| {
+    let refusals = (1..=15).chain([18, 24]).map(|number| {
         let refused = ffi::Refused { number, has_place: u8::from(number == 18), ..Default::default() };
         (upper(Refusal::of(refused).unwrap()), number)
     });
@@ -215,7 +215,7 @@ fn layouts_are_those_of_c() {
         RecoveryStep as "recovery_step": state refused is_found found;
         Scan as "scan": align offset stopped;
         ScanStep as "scan_step": state refused is_found found;
-        Written as "written": payload_bytes programmed_bytes program_operations barriers;
+        Written as "written": payload_bytes programmed_bytes program_operations barriers uncommitted_appends;
         Journal as "journal": geometry offset phase body_len payload_len frame_crc written;
         Opening as "opening": refused journal;
         Advanced as "advanced": journal refused written;
