@@ -1,6 +1,6 @@
--- A third theorem beside demand 3: what the counts have grown by since the opening that a list of stages, barriers and
--- commits goes on from. Any settings, any region, any counts that the opening was handed; steps that are refused too,
--- and whatever something else writes between them; no cut.
+-- A fourth theorem: what the counts have grown by since the opening that a list of stages, barriers and commits goes
+-- on from. Any settings, any region, any counts that the opening was handed; steps that are refused too, and whatever
+-- something else writes between them; no cut.
 -- w are the counts that the opening was handed, j its journal, k the journal after the list.
 use Rattle.std.specs.Prelude.{◌≡◌, true, cond, List, ℕ, ◌+◌, ◌-◌, ◌≤◌, eqb, Ok}
 use Rattle.counts.specs.declared.WriteAmplification.{WriteAmplification}
@@ -29,8 +29,8 @@ pub record Grown (w : WriteAmplification) (j k : Journal) : Type 0 where
   pub programmed : k.written.programmed_bytes ≡ w.programmed_bytes + (k.offset - j.offset) + body_under_way k
   -- and the appends that were not committed by one while a record is under way
   pub uncommitted : k.written.uncommitted_appends ≡ w.uncommitted_appends + under_way k
-  -- no count has stopped: an opening takes 2 to the 62nd at most in each, and none grows by more than 2 to the 24th, the
-  -- longest region
+  -- no count has stopped: an opening takes 2 to the 62nd at most in each, and none grows by more than 2 to the 24th,
+  -- the longest region
   pub short : up_to (largest_handed + 16777216) k.written ≡ true
 
 -- the theorem, proved in `proofs/Counting.antt`

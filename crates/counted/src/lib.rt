@@ -1,4 +1,4 @@
-// A third theorem beside demand 3: what the counts have grown by since an opening, and that none has stopped.
+// A fourth theorem: what the counts have grown by since an opening, and that none has stopped.
 #![tactic(auto)]
 
 ghost use Rattle.counted.specs.Counted.{Theorem};

@@ -28,4 +28,5 @@ pub record Stays (i : ℕ) (s : List ℕ) (k : Journal) (t : List ℕ) : Type 0 
 -- the theorem, proved in `proofs/Stays.antt`: from any moment at which the journal is ready, so that what is written
 -- later is covered from then on, whatever list comes after it, every such byte stays
 abbrev pub Theorem : Type 0
-Theorem = (i : ℕ) (j k : Journal) (s t : List ℕ) (es : List Event) → Foreign i j s → Leads (Spares i) j s es k t → Stays i s k t
+Theorem = (i : ℕ) (j k : Journal) (s t : List ℕ) (es : List Event) → Foreign i j s → Leads (Spares i) j s es k t
+    → Stays i s k t

@@ -29,8 +29,8 @@ half_way = busy handed_on 2 16 0 0x71f237f2 (counts 9 24 8 7 6)
 abbrev pub behind_it : Journal
 behind_it = idle (units 64 4 1) 20 (counts 9 28 9 8 5)
 
--- programmed bytes, as the theorem has it: 8 and the body's 16, then 8 and the advance of 20; uncommitted appends: 5 and
--- one, then 5
+-- programmed bytes, as the theorem has it: 8 and the body's 16, then 8 and the advance of 20; uncommitted appends: 5
+-- and one, then 5
 pub record Instances : Type 0 where
   pub opens : (large : List ℕ) → Large large
       → Opens handed 4 1 blank large (Ok handed_on) (opened_with handed 4 1 blank large).page

@@ -53,12 +53,14 @@ stages_to x = stage x.«record» x.free (replicate 64 0)
 
 -- an append of the record of 20 bytes goes through
 abbrev pub goes_through : List Event → List Event
-goes_through es = stages_to fired (Ok Staged) ∷ barrier (Ok Confirmed) ∷ commit (Ok (Committed (counts 0 20 2 2 0))) ∷ es
+goes_through es =
+    stages_to fired (Ok Staged) ∷ barrier (Ok Confirmed) ∷ commit (Ok (Committed (counts 0 20 2 2 0))) ∷ es
 
 -- bytes 30 and 31 stay, each where the other events leave it
 pub record Instances : Type 0 where
   -- a record of 40 bytes is refused, which leaves nothing under way
-  pub refused : Leads (Spares 30) at_start noted (stages_to armed spoiled ∷ barrier (Err OutOfOrder) ∷ []) at_start noted
+  pub refused : Leads (Spares 30) at_start noted (stages_to armed spoiled ∷ barrier (Err OutOfOrder) ∷ [])
+      at_start noted
   -- one of 20 bytes is committed before them, and the next is refused
   pub before : Leads (Spares 30) at_start noted (goes_through (stages_to fired spoiled ∷ [])) behind noted_behind
   -- byte 50 is written later, and stays from then on
