@@ -1,9 +1,12 @@
 //! The short inputs, all of them: every string of two octets, every length, every header of small variety, every slot
-//! of one or two bytes, every page from nothing to past the record.
+//! of one or two bytes, every page from nothing to past the record, every edge of a count.
 
 use crate::bytes::{self, ALIGNS};
+use crate::counted::may_go_on;
 use crate::generate;
+use crate::handed::EDGES;
 use crate::model::*;
+use std::array;
 
 /// Hands each case to `take`, always in the same order.
 pub fn each(take: &mut dyn FnMut(Case)) {
@@ -18,6 +21,7 @@ pub fn each(take: &mut dyn FnMut(Case)) {
     pages(take);
     appends(take);
     foreign_writes(take);
+    counts(take);
 }
 
 fn reads(align: u16) -> impl Iterator<Item = u16> {
@@ -234,8 +238,8 @@ fn appends(take: &mut dyn FnMut(Case)) {
 }
 
 /// A stranger's byte at each edge of the next record's body and slot, before it and behind it; in regions short of room
-/// by a read unit, with pages short by a byte, and with enough of both. They come last, so that the fixed list, which
-/// takes one case in so many, stays as it is.
+/// by a read unit, with pages short by a byte, and with enough of both. They come behind the others, as do those below,
+/// so that the fixed list, which takes one case in so many, stays as it is.
 fn foreign_writes(take: &mut dyn FnMut(Case)) {
     for align in ALIGNS {
         let found = bytes::sealed(&bytes::frame(1, 6, 1, &[]), align);
@@ -255,6 +259,41 @@ fn foreign_writes(take: &mut dyn FnMut(Case)) {
                         take(generate::expressible(Case::Append { units, page_len, region: region.clone(), calls }));
                     }
                 }
+            }
+        }
+    }
+}
+
+/// The smallest sum that the Rust's counts do not hold: 4,294,967,295 payload bytes and 1.
+pub fn past_the_stop() -> Case {
+    let mut doublings = vec![false];
+    doublings.extend([true, false].repeat(31));
+    doublings.push(false);
+    Case::Counts { align: 1, free_len: 1, doublings }
+}
+
+/// Every edge of a count, in each place alone and in all: added to every other, and handed to an opening of a region
+/// that is erased, of one that is not, and of one whose program unit is outside its limits.
+fn counts(take: &mut dyn FnMut(Case)) {
+    take(past_the_stop());
+    // A region that is one byte too long.
+    let calls = vec![Call::OpenWith(Written::of([u64::MAX; PLACES]))];
+    take(Case::Append { units: Units { program: 1, read: 1 }, page_len: 18, region: vec![0xFF; 16_777_217], calls });
+    // All five counts grow by it.
+    let stage = Call::Stage(Record { kind: 4, seq: 7, ..Record::default() }, payload(1));
+    for place in 0..=PLACES {
+        let counts = |count| Written::of(array::from_fn(|at| if at == place || place == PLACES { count } else { 0 }));
+        for handed in EDGES.map(counts) {
+            for other in EDGES.map(counts) {
+                take(Case::Sum { x: handed, y: other });
+            }
+            let opening = vec![Call::OpenWith(handed)];
+            // What is refused leaves no journal.
+            let again = if may_go_on(handed) { Vec::new() } else { vec![Call::Open] };
+            let calls = [&opening[..], &again, &[stage.clone(), Call::Barrier, Call::Commit], &opening].concat();
+            for (program, byte, calls) in [(1, 0xFF, &calls), (1, 0, &opening), (3, 0xFF, &opening)] {
+                let units = Units { program, read: 1 };
+                take(Case::Append { units, page_len: 18, region: vec![byte; 40], calls: calls.clone() });
             }
         }
     }

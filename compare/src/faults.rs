@@ -5,10 +5,10 @@
 
 use crate::bytes;
 use crate::foreign::{is_not_erased, places, refused_at, refusing};
-use crate::misplaced;
 use crate::model::*;
 use crate::place::first_written;
 use crate::run::{self, Plan, agree};
+use crate::{miscounted, misplaced};
 use std::ops::Range;
 
 #[derive(Clone, Copy, PartialEq, Eq)]
@@ -31,7 +31,7 @@ const fn rust(name: &'static str, wrong: fn(&dyn Side, &Case) -> Answer) -> Faul
     Fault { whose: Whose::Rust, name, wrong }
 }
 
-pub const FAULTS: [Fault; 51] = [
+pub const FAULTS: [Fault; 67] = [
     ours("the frame check has a bit flipped", frame_check_flipped),
     rust("the header check lacks its complement", no_complement),
     rust("a payload of 65,535 bytes is too long", longest_refused),
@@ -83,6 +83,22 @@ pub const FAULTS: [Fault; 51] = [
     ours("stage's place counts from the append offset", misplaced::from_append_offset),
     ours("stage's place is the last", misplaced::last_in_stage),
     ours("open's 11 has a place", misplaced::at_opening),
+    ours("barrier and not stage counts an uncommitted append", miscounted::up_at_barrier),
+    ours("commit leaves the append uncommitted", miscounted::not_down_at_commit),
+    ours("a refused stage counts an uncommitted append", miscounted::up_where_refused),
+    ours("a journal's counts stop at 32 bits", miscounted::journal_stops_at_32_bits),
+    ours("a sum's counts stop at 32 bits", miscounted::sum_stops_at_32_bits),
+    ours("a sum's overhead stops at 32 bits", miscounted::overhead_stops_at_32_bits),
+    ours("a sum's counts wrap at 64 bits", miscounted::sum_wraps),
+    ours("a sum lacks the uncommitted appends", miscounted::sum_lacks_uncommitted),
+    ours("commit says what the journal wrote so far", miscounted::commit_says_all),
+    ours("commit says that its append is uncommitted", miscounted::commit_says_uncommitted),
+    ours("a count of 2^62 is refused with 24", miscounted::most_refused),
+    ours("24 does not look at the uncommitted appends", miscounted::uncommitted_unlooked_at),
+    ours("an opening starts at zero whatever it is handed", miscounted::not_gone_on_from),
+    ours("the page is read before 24", miscounted::page_changed),
+    ours("24 comes before 1", miscounted::before_settings),
+    ours("24 comes after 3 and 11", miscounted::behind_recovery),
 ];
 
 /// For each fault, the name and kind of the first case that caught it.
@@ -326,7 +342,7 @@ fn scan_length_first(side: &dyn Side, case: &Case) -> Answer {
 }
 
 /// Bends what each call of a list answered and left.
-pub fn bend_calls(side: &dyn Side, case: &Case, bend: impl Fn(&Call, &mut AfterCall)) -> Answer {
+pub fn bend_calls(side: &dyn Side, case: &Case, mut bend: impl FnMut(&Call, &mut AfterCall)) -> Answer {
     let mut answer = side.answer(case);
     if let (Case::Append { calls, .. }, Answer::Append(after)) = (case, &mut answer) {
         calls.iter().zip(after).for_each(|(call, after)| bend(call, after));
@@ -472,11 +488,11 @@ fn counts_wrap(side: &dyn Side, case: &Case) -> Answer {
             .iter()
             .zip(sums.iter())
             .find(|(double, _)| !**double)
-            .map_or(0, |(_, sum)| sum.0.programmed_bytes);
+            .map_or(0, |(_, sum)| sum.0.programmed_bytes as u32);
         let mut bytes = 0_u32;
         for (double, sum) in doublings.iter().zip(sums) {
             bytes = bytes.wrapping_add(if *double { bytes } else { one });
-            sum.0.programmed_bytes = bytes;
+            sum.0.programmed_bytes = bytes.into();
         }
     }
     answer

@@ -199,9 +199,10 @@ fn put_outcome(out: &mut Vec<u8>, outcome: &Outcome) {
     }
 }
 
+/// The Rust's four counts of 32 bits.
 fn put_written(out: &mut Vec<u8>, written: &Written) {
     for count in [written.payload_bytes, written.programmed_bytes, written.program_operations, written.barriers] {
-        put_u32(out, count);
+        put_u32(out, count as u32);
     }
 }
 
@@ -213,7 +214,7 @@ fn put_call(out: &mut Vec<u8>, call: &Call) -> Option<()> {
             put_record(out, record);
             put_bytes(out, free)?;
         }
-        Call::StageElsewhere(..) | Call::Foreign { .. } => return None,
+        Call::OpenWith(_) | Call::StageElsewhere(..) | Call::Foreign { .. } => return None,
         Call::Barrier => out.push(2),
         Call::Commit => out.push(3),
     }

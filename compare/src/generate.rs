@@ -303,7 +303,7 @@ fn find_case(rng: &mut Rng) -> Case {
     Case::Find { units, page_len: page_len(rng, &region, units), region, seq: rng.below(4) as u32 }
 }
 
-fn append_case(rng: &mut Rng) -> Case {
+pub fn append_case(rng: &mut Rng) -> Case {
     let units = units(rng);
     let mut region = if rng.one_in(8) { region(rng, units) } else { appendable(rng, units) };
     let room = rng.below(9 * usize::from(units.program) + 180);

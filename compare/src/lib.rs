@@ -1,12 +1,15 @@
 //! Both sides of the comparison, the inputs, and the fixed list; the two programs stand on these.
 
 pub mod bytes;
+pub mod counted;
 pub mod courses;
 pub mod exhaustive;
 pub mod faults;
 pub mod fixed;
 pub mod foreign;
 pub mod generate;
+pub mod handed;
+pub mod miscounted;
 pub mod misplaced;
 pub mod model;
 #[cfg(feature = "ours")]

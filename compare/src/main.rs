@@ -1,7 +1,7 @@
 //! compare: runs the journal and the Rust it was ported from on the same inputs.
 //!
-//!     compare [--cases N] [--seed S]   every short input, N random ones and N / 10 spoiled ones; status 1 if any
-//!                                      answer differs
+//!     compare [--cases N] [--seed S]   every short input, N random ones, N / 10 spoiled ones and N / 60 about counts, at
+//!                                      least 600; status 1 if any answer differs
 //!     compare --short [--seed S]       some thousands, for slow runs under a checker of memory
 //!     compare --faults [--seed S]      deliberate mistakes on both sides; status 1 if one is not caught
 //!     compare --fixed FILE             writes the fixed list, from the oracle alone
@@ -72,6 +72,7 @@ fn write_fixed(file: &str) -> ExitCode {
 #[cfg(feature = "ours")]
 mod both {
     use super::*;
+    use compare::counted::Counted;
     use compare::faults::{self, FAULTS, Whose};
     use compare::foreign::Looking;
     use compare::ours::Ours;
@@ -79,28 +80,34 @@ mod both {
     use compare::run;
     use compare::theirs::Theirs;
 
+    /// What the answers of ours are held against.
+    const TRUE: Counted = Counted(&Placed(&Looking(&Theirs)));
+
     const NOT_COMPARED: &str =
         "The Rust has no form for these, so they are not compared: refusals 1, 14, 15 and 18; refusal 2 at
 barrier and commit; a barrier or commit after a stage that was refused with 12; N = 0; a read unit above
 the program unit or one that does not divide N; the payload of a frame of unknown kind. Stages that are
 refused with 18 are left out of what the Rust is asked: ours must refuse those that document 02's d) names
 and no others, and change nothing. The place in a refusal is compared with a search of the bytes: the Rust
-has none.";
+has none. Nor has it the fifth count, counts from 4,294,967,295 on, openings that are handed counts, and
+refusal 24: these are compared with a plain model.";
 
     pub fn compare(plan: Plan) -> ExitCode {
         let short = match plan.stride {
             1 => "every short input".to_string(),
             stride => format!("one short input in {stride}"),
         };
-        println!("{short}, {} random cases of seed {} and {} spoiled ones", plan.random, plan.seed, plan.spoiled());
-        let tally = run::compare(&Ours, &Placed(&Looking(&Theirs)), plan);
+        let Plan { seed, random, .. } = plan;
+        let (spoiled, handed) = (plan.spoiled(), plan.handed());
+        println!("{short}, {random} random cases of seed {seed}, {spoiled} spoiled ones and {handed} about counts");
+        let tally = run::compare(&Ours, &TRUE, plan);
         tally.print();
         println!("\n{NOT_COMPARED}");
         if tally.is_good() { ExitCode::SUCCESS } else { ExitCode::FAILURE }
     }
 
     pub fn faults(plan: Plan) -> ExitCode {
-        let caught = faults::run(&Ours, &Placed(&Looking(&Theirs)), plan);
+        let caught = faults::run(&Ours, &TRUE, plan);
         for (fault, caught) in FAULTS.iter().zip(&caught) {
             let whose = if fault.whose == Whose::Ours { "ours" } else { "Rust" };
             let verdict = caught.as_ref().map_or("NOT CAUGHT".to_string(), |case| format!("caught ({case})"));

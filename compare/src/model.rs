@@ -114,24 +114,44 @@ pub struct ScanStep {
     pub offset: usize,
 }
 
+/// What was written. The Rust has the first four counts, in 32 bits each.
 #[derive(Clone, Copy, Debug, Default, PartialEq, Eq)]
 pub struct Written {
-    pub payload_bytes: u32,
-    pub programmed_bytes: u32,
-    pub program_operations: u32,
-    pub barriers: u32,
+    pub payload_bytes: u64,
+    pub programmed_bytes: u64,
+    pub program_operations: u64,
+    pub barriers: u64,
+    pub uncommitted_appends: u64,
+}
+
+/// How many counts there are.
+pub const PLACES: usize = 5;
+
+impl Written {
+    /// The counts in the order of the C header.
+    pub const fn counts(self) -> [u64; PLACES] {
+        let Written { payload_bytes, programmed_bytes, program_operations, barriers, uncommitted_appends } = self;
+        [payload_bytes, programmed_bytes, program_operations, barriers, uncommitted_appends]
+    }
+
+    pub const fn of(counts: [u64; PLACES]) -> Self {
+        let [payload_bytes, programmed_bytes, program_operations, barriers, uncommitted_appends] = counts;
+        Written { payload_bytes, programmed_bytes, program_operations, barriers, uncommitted_appends }
+    }
 }
 
 #[derive(Clone, Copy, Debug, PartialEq, Eq)]
 pub struct Journal {
     pub offset: u32,
     pub written: Written,
-    pub overhead: u32,
+    pub overhead: u64,
 }
 
 #[derive(Clone, Debug)]
 pub enum Call {
     Open,
+    /// An opening that goes on from these counts.
+    OpenWith(Written),
     Stage(Record, Vec<u8>),
     /// A stage on a region that is one read unit longer than the journal's own.
     StageElsewhere(Record, Vec<u8>),
@@ -176,7 +196,7 @@ pub const BEFORE: u8 = 0xA5;
 pub const STEPS_PAST_THE_END: usize = 2;
 
 /// What is asked. In a recovery, `held` is the region's length by the state: a step on a region of another length is
-/// refused. `Counts` adds the counts of one append to a sum (`false`) or the sum to itself (`true`).
+/// refused. `Counts` adds the counts of one append to a sum (`false`) or the sum to itself (`true`), `Sum` any two.
 #[derive(Clone, Debug)]
 pub enum Case {
     Checks { bytes: Vec<u8> },
@@ -188,6 +208,7 @@ pub enum Case {
     Append { units: Units, page_len: usize, region: Vec<u8>, calls: Vec<Call> },
     Find { units: Units, page_len: usize, region: Vec<u8>, seq: u32 },
     Counts { align: u16, free_len: usize, doublings: Vec<bool> },
+    Sum { x: Written, y: Written },
 }
 
 /// What is answered; `NotAccepted` where the side's constructors do not take the units.
@@ -201,11 +222,11 @@ pub enum Answer {
     Scan(Vec<ScanStep>),
     Append(Vec<AfterCall>),
     Find { offset: Result<Option<u32>, Refused>, page: Vec<u8> },
-    Counts(Vec<(Written, u32)>),
+    Counts(Vec<(Written, u64)>),
     NotAccepted,
 }
 
-pub const KINDS: [&str; 9] = [
+pub const KINDS: [&str; 11] = [
     "checks",
     "length for P",
     "encode, lengths",
@@ -215,6 +236,8 @@ pub const KINDS: [&str; 9] = [
     "append lists",
     "find",
     "counts",
+    "lists, counts handed",
+    "sums of any counts",
 ];
 
 impl Case {
@@ -227,9 +250,11 @@ impl Case {
             Case::Decode { .. } => 3,
             Case::Recovery { .. } => 4,
             Case::Scan { .. } => 5,
+            Case::Append { calls, .. } if calls.iter().any(|call| matches!(call, Call::OpenWith(_))) => 9,
             Case::Append { .. } => 6,
             Case::Find { .. } => 7,
             Case::Counts { .. } => 8,
+            Case::Sum { .. } => 10,
         }
     }
 }

@@ -29,6 +29,7 @@ impl Side for Ours {
                 Answer::Find { offset, page }
             }
             Case::Counts { align, free_len, doublings } => counts(usize::from(*align), *free_len, doublings),
+            Case::Sum { x, y } => Answer::Counts(vec![sum_of(given_counts(*x).plus(given_counts(*y)))]),
         }
     }
 }
@@ -183,8 +184,18 @@ fn scan(align: usize, journal: &[u8]) -> Vec<ScanStep> {
 }
 
 fn written(counts: ffi::Written) -> Written {
-    let ffi::Written { payload_bytes, programmed_bytes, program_operations, barriers } = counts;
-    Written { payload_bytes, programmed_bytes, program_operations, barriers }
+    let ffi::Written { payload_bytes, programmed_bytes, program_operations, barriers, uncommitted_appends } = counts;
+    Written { payload_bytes, programmed_bytes, program_operations, barriers, uncommitted_appends }
+}
+
+/// Counts as C takes them.
+fn given_counts(counts: Written) -> ffi::Written {
+    let Written { payload_bytes, programmed_bytes, program_operations, barriers, uncommitted_appends } = counts;
+    ffi::Written { payload_bytes, programmed_bytes, program_operations, barriers, uncommitted_appends }
+}
+
+fn sum_of(counts: ffi::Written) -> (Written, u64) {
+    (written(counts), counts.overhead_bytes())
 }
 
 /// One call of a list: its own counts where it is a commit.
@@ -195,18 +206,24 @@ fn call(
     region: &mut [u8],
     page: &mut [u8],
 ) -> Option<Result<Option<Written>, Refused>> {
-    if let Call::Open = call {
-        let (program, read) = sizes(units);
-        let opened = jardolento::Journal::open(program, read, region, page).map_err(refused);
+    let (program_size, read_size) = sizes(units);
+    let opened = match call {
+        Call::Open => Some(jardolento::Journal::open(program_size, read_size, region, page)),
+        Call::OpenWith(counts) => {
+            Some(jardolento::Journal::open_with(given_counts(*counts), program_size, read_size, region, page))
+        }
+        _ => None,
+    };
+    if let Some(opened) = opened {
         *journal = opened.ok();
-        return Some(opened.map(|_| None));
+        return Some(opened.map(|_| None).map_err(refused));
     }
     let journal = journal.as_mut()?;
     Some(match call {
         Call::Stage(record, free) => journal.stage(given(record, free), region, page).map(|()| None).map_err(refused),
         Call::StageElsewhere(record, free) => {
             let mut other = region.to_vec();
-            other.resize(region.len() + usize::from(units.read), 0xFF);
+            other.resize(region.len() + read_size, 0xFF);
             journal.stage(given(record, free), &mut other, page).map(|()| None).map_err(refused)
         }
         Call::Foreign { at, bytes } => {
@@ -251,7 +268,7 @@ fn counts(align: usize, free_len: usize, doublings: &[bool]) -> Answer {
     let mut sums = Vec::new();
     for double in doublings {
         sum = sum.plus(if *double { sum } else { one });
-        sums.push((written(sum), sum.overhead_bytes()));
+        sums.push(sum_of(sum));
     }
     Answer::Counts(sums)
 }

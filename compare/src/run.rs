@@ -1,13 +1,16 @@
 //! Asks both sides the same and tallies where they part.
 
+use crate::counted::grown;
 use crate::foreign::{self, kept, not_erased};
+use crate::handed::{self, SEEN, Seen};
 use crate::model::*;
 use crate::place::{self, PLACED};
 use crate::{exhaustive, spoiled};
 use std::panic::resume_unwind;
 use std::thread;
 
-/// Which cases: every `stride`-th of the short inputs, so many random ones of a seed, and a tenth as many spoiled ones.
+/// Which cases: every `stride`-th of the short inputs, so many random ones of a seed, a tenth as many spoiled ones, and
+/// a sixtieth as many about counts, or 600.
 #[derive(Clone, Copy)]
 pub struct Plan {
     pub seed: u64,
@@ -18,6 +21,11 @@ pub struct Plan {
 impl Plan {
     pub fn spoiled(&self) -> u64 {
         self.random / 10
+    }
+
+    /// A short run too is to have all of `SEEN`.
+    pub fn handed(&self) -> u64 {
+        (self.random / 60).max(600)
     }
 }
 
@@ -34,6 +42,8 @@ pub struct Tally {
     pub left_out: u64,
     /// Places in our refusals, by the order of `PLACED`.
     pub places: [u64; PLACED.len()],
+    /// What came about among the counts that the Rust does not have.
+    pub seen: Seen,
     shown: [Vec<(usize, String)>; KINDS.len()],
 }
 
@@ -47,6 +57,7 @@ impl Tally {
         self.cases[kind] += 1;
         self.left_out += not_erased(&ours);
         add(&mut self.places, place::count(case, &ours));
+        add_seen(&mut self.seen, handed::seen(case, &ours));
         if agree(case, &ours, &theirs) {
             return;
         }
@@ -56,7 +67,11 @@ impl Tally {
         if shown.len() == SHOWN && shown.iter().all(|(len, _)| *len <= input.len()) {
             return;
         }
-        let changed = if ours == theirs { ", a stranger's byte changed" } else { "" };
+        let changed = match (ours == theirs, grown(case, &ours)) {
+            (false, _) => "",
+            (true, true) => ", a stranger's byte changed",
+            (true, false) => ", the counts did not grow by what was programmed",
+        };
         let answers = format!("  ours   {ours:02x?}\n  Rust   {theirs:02x?}");
         let text = format!("{}{changed}, all numbers in hex\n  input  {input}\n{answers}", name());
         shown.push((input.len(), text));
@@ -76,6 +91,7 @@ impl Tally {
         self.outside += other.outside;
         self.left_out += other.left_out;
         add(&mut self.places, other.places);
+        add_seen(&mut self.seen, other.seen);
         for (mine, more) in self.shown.iter_mut().zip(other.shown) {
             mine.extend(more);
         }
@@ -87,9 +103,9 @@ impl Tally {
         (self.cases.iter().sum(), self.differences.iter().sum())
     }
 
-    /// Whether all agree, and a place of every refusal that has one was among it.
+    /// Whether all agree, and a place of every refusal that has one was among it, and all of `SEEN`.
     pub fn is_good(&self) -> bool {
-        self.total().1 == 0 && !self.places.contains(&0)
+        self.total().1 == 0 && !self.places.contains(&0) && !self.seen.iter().flatten().any(|count| *count == 0)
     }
 
     pub fn print(&self) {
@@ -108,8 +124,20 @@ impl Tally {
             let none = if count == 0 { ": NOT compared" } else { "" };
             println!("{:<22} {count:>12}{none}", format!("  {}, {number}", KINDS[*kind]));
         }
+        self.print_seen();
         for (_, text) in self.shown.iter().flatten() {
             println!("\ndifference: {text}");
+        }
+    }
+
+    fn print_seen(&self) {
+        println!("counts that the Rust does not have, compared with a plain model:");
+        let columns = |texts: [String; PLACES]| texts.map(|text| format!("{text:>12}")).concat();
+        let names = ["payload", "programmed", "operations", "barriers", "uncommitted"];
+        println!("{:<30}{}", "", columns(names.map(str::to_string)));
+        for (name, seen) in SEEN.iter().zip(self.seen) {
+            let none = if seen.contains(&0) { ": NOT compared" } else { "" };
+            println!("  {name:<28}{}{none}", columns(seen.map(|count| count.to_string())));
         }
     }
 }
@@ -118,9 +146,13 @@ fn add<const N: usize>(counts: &mut [u64; N], more: [u64; N]) {
     counts.iter_mut().zip(more).for_each(|(count, more)| *count += more);
 }
 
-/// Whether our answer is the Rust's, and what strangers wrote stays in it.
+fn add_seen(counts: &mut Seen, more: Seen) {
+    counts.iter_mut().zip(more).for_each(|(counts, more)| add(counts, more));
+}
+
+/// Whether our answer is the Rust's, what strangers wrote stays in it, and its counts grow by what was programmed.
 pub fn agree(case: &Case, ours: &Answer, theirs: &Answer) -> bool {
-    ours == theirs && kept(case, ours)
+    ours == theirs && kept(case, ours) && grown(case, ours)
 }
 
 /// Hands out every case of a plan that falls to one of several workers, with its name. What is handed out is a clone,
@@ -138,6 +170,9 @@ pub fn each(plan: Plan, worker: u64, workers: u64, take: &mut dyn FnMut(&dyn Fn(
     }
     for number in (worker..plan.spoiled()).step_by(workers as usize) {
         take(&|| format!("spoiled case {number} of seed {}", plan.seed), spoiled::case(plan.seed, number).clone());
+    }
+    for number in (worker..plan.handed()).step_by(workers as usize) {
+        take(&|| format!("case {number} about counts of seed {}", plan.seed), handed::case(plan.seed, number).clone());
     }
 }
 

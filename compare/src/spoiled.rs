@@ -1,6 +1,6 @@
 //! Random cases about the place in a refusal: tails that are spoiled, near and some pages away; records with a byte
 //! behind their frame that keeps them from being skipped; lists in which something else writes where the next record is
-//! to go. They have random numbers of their own and come last, so that the other cases stay as they are.
+//! to go. They have random numbers of their own and come behind the others, so that those stay as they are.
 
 use crate::bytes;
 use crate::generate::{self, expressible, fit, fixed_len, units};

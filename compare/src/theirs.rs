@@ -44,6 +44,8 @@ fn answer(case: &Case) -> Option<Answer> {
         Case::Append { units, page_len, region, calls } => Answer::Append(append(*units, *page_len, region, calls)?),
         Case::Find { units, page_len, region, seq } => find(*units, *page_len, region, *seq)?,
         Case::Counts { align, free_len, doublings } => counts(*align, *free_len, doublings)?,
+        // Its counts are made by its own calls alone.
+        Case::Sum { .. } => return None,
     })
 }
 
@@ -236,10 +238,11 @@ fn scan(align: ProgramAlign, journal: &[u8]) -> Vec<ScanStep> {
 
 fn written(counts: WriteAmplification) -> Written {
     Written {
-        payload_bytes: counts.payload_bytes(),
-        programmed_bytes: counts.programmed_bytes(),
-        program_operations: counts.program_operations(),
-        barriers: counts.barriers(),
+        payload_bytes: counts.payload_bytes().into(),
+        programmed_bytes: counts.programmed_bytes().into(),
+        program_operations: counts.program_operations().into(),
+        barriers: counts.barriers().into(),
+        uncommitted_appends: 0,
     }
 }
 
@@ -358,7 +361,7 @@ fn append(units: Units, page_len: usize, region: &[u8], calls: &[Call]) -> Optio
         let journal = ran.journal.as_ref().map(|journal| Journal {
             offset: journal.offset(),
             written: written(journal.amplification()),
-            overhead: journal.amplification().overhead_bytes(),
+            overhead: journal.amplification().overhead_bytes().into(),
         });
         after.push(AfterCall { refused: ran.refused, committed: ran.committed, journal, region: bytes, page });
     }
@@ -394,7 +397,7 @@ fn counts(align: u16, free_len: usize, doublings: &[bool]) -> Option<Answer> {
     let mut sums = Vec::new();
     for double in doublings {
         sum = sum.plus(if *double { sum } else { one });
-        sums.push((written(sum), sum.overhead_bytes()));
+        sums.push((written(sum), sum.overhead_bytes().into()));
     }
     Some(Answer::Counts(sums))
 }
