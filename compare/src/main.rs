@@ -1,7 +1,7 @@
 //! compare: runs the journal and the Rust it was ported from on the same inputs.
 //!
-//!     compare [--cases N] [--seed S]   every short input, N random ones, N / 10 spoiled ones and N / 60 about counts, at
-//!                                      least 600; status 1 if any answer differs
+//!     compare [--cases N] [--seed S]   every short input, N random ones, N / 10 spoiled ones and N / 60 about counts,
+//!                                      600 at least; status 1 if any answer differs
 //!     compare --short [--seed S]       some thousands, for slow runs under a checker of memory
 //!     compare --faults [--seed S]      deliberate mistakes on both sides; status 1 if one is not caught
 //!     compare --fixed FILE             writes the fixed list, from the oracle alone
