@@ -12,7 +12,7 @@ use lib.ListN.{length, take, drop}
 use Rattle.waymaker_core.specs.declared.error.DecodeError.TheVariants.{Truncated, IntegrityFailed, LengthOutOfBounds}
 use Rattle.waymaker_core.specs.declared.error.Span.TheVariants.{Tail, Behind, Ahead}
 use Rattle.waymaker_core.specs.declared.error.Refusal.{Refusal}
-use Rattle.waymaker_core.specs.declared.error.Refusal.TheVariants.{Settings, WrongDevice, PageTooSmall, Decode, NotErased, NotAppendable, Interrupted, NoRoom, OutOfOrder, NotARecord}
+use Rattle.waymaker_core.specs.declared.error.Refusal.TheVariants.{Settings, WrongDevice, PageTooSmall, Decode, NotErased, NotAppendable, Interrupted, NoRoom, OutOfOrder, NotARecord, CountTooLarge}
 use Rattle.waymaker_core.specs.declared.«record».Record.{Record}
 use Rattle.waymaker_core.specs.Refusals.{numbered}
 use Rattle.waymaker_core.proofs.Choice.{cond_case}
@@ -250,6 +250,7 @@ by_place P tail behind ahead plain Interrupted = plain _ refl
 by_place P tail behind ahead plain (NoRoom n m) = plain _ refl
 by_place P tail behind ahead plain OutOfOrder = plain _ refl
 by_place P tail behind ahead plain NotARecord = plain _ refl
+by_place P tail behind ahead plain CountTooLarge = plain _ refl
 
 -- stage's refusal for a record that is none, or for its length, has none
 as_staged_without : (e : Refusal) → without (as_staged e) ≡ as_staged e

@@ -13,7 +13,7 @@ use lib.Seq.{get_or-drop, get_or-take, length-take-le, take-take}
 use borrow.Author.Tests.{eqb-true, ltb-false, not-false}
 use Rattle.waymaker_core.specs.declared.error.Span.TheVariants.{Tail, Behind, Ahead}
 use Rattle.waymaker_core.specs.declared.error.Refusal.{Refusal}
-use Rattle.waymaker_core.specs.declared.error.Refusal.TheVariants.{Settings, WrongDevice, PageTooSmall, Decode, NotErased, NotAppendable, Interrupted, NoRoom, OutOfOrder, NotARecord}
+use Rattle.waymaker_core.specs.declared.error.Refusal.TheVariants.{Settings, WrongDevice, PageTooSmall, Decode, NotErased, NotAppendable, Interrupted, NoRoom, OutOfOrder, NotARecord, CountTooLarge}
 use Rattle.waymaker_core.specs.declared.«record».Record.{Record}
 use Rattle.waymaker_core.specs.Refusals.{numbered}
 use Rattle.waymaker_core.proofs.Choice.{cond_case}
@@ -302,6 +302,7 @@ module _ (j : Journal) (x : Record) (free region page : List ℕ) where
     kept (NoRoom n m) h = tt
     kept OutOfOrder h = tt
     kept NotARecord h = tt
+    kept CountTooLarge h = tt
 
   stage_placed : PlacedStep (staged j x free region page)
   unfolding staged on_device begins
