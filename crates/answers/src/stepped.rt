@@ -33,6 +33,7 @@ pub struct RecoveryState {
     pub offset: u32,
     // C may give any number, so that no enum stands here.
     pub ending: u8,
+    pub reads: u64,
 }
 
 // A scan, which has stopped where its last number is not 0.
@@ -135,6 +136,7 @@ impl From<RecoveryState> for Recovery {
             geometry: state.geometry,
             offset: state.offset,
             ending: ending_of(state.ending),
+            reads: state.reads,
         }
     }
 }
@@ -148,6 +150,7 @@ impl From<Recovery> for RecoveryState {
             offset: recovery.offset,
             // Its variants are in the order of their numbers.
             ending: recovery.ending as u8,
+            reads: recovery.reads,
         }
     }
 }

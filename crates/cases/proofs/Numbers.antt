@@ -24,7 +24,7 @@ use Rattle.place.specs.AtOffset.{stand_refusal, settled, judged, shape_of, stand
 use Rattle.place.specs.Walk.{walk_over, walk}
 use Rattle.scan.specs.Scan.{step_refusal, scanned, step_of}
 use Rattle.look.specs.Reads.{capacity_of, laid, tail_reads, further, wanted, made, seen_by, paged, reads_at, reads_all}
-use Rattle.recovery.specs.Next.{walk_from, page_after, before, step, fresh}
+use Rattle.recovery.specs.Next.{walk_from, reads_through, before, step, fresh}
 use Rattle.finish.specs.Finish.{to_end, founds}
 use Rattle.find.specs.Find.{carries, kept, latest, find_in}
 use Rattle.counts.specs.declared.WriteAmplification.{WriteAmplification}
@@ -199,5 +199,5 @@ wished (marks x n i) = record { number = n; needed = 0; available = 0; place = S
 
 -- the whole table, computed
 numbers : map given table ≡ map wished table
-unfolding table one_of known run_scoped has_free seq_fits free_fits widths numbers_len clock_known clock_fits plain_record bit_step bit_steps octet octets fcs header_check frame_check unit_up_to program_unit read_unit region_length allowed settings round_up programmed_from first_programmed erased ands programmed laid_over bytes_le value_le field_bytes fields body_len record_len well_given payload_fits payload_len with_unit encoded_len_for encoded_len numbers_of payload_of checked_header header_of covered_of check_of frame_of padding_of seal_byte seal_from body_of record_of sealed_from seal_holds overwritten encoded_bytes encoded length_fits record_with well_formed body_at header_at frame_len_of frame_under decoded settled judged shape_of stands walk_over walk scanned step_of capacity_of laid tail_reads further wanted made seen_by paged reads_at reads_all walk_from page_after before step to_end founds carries kept latest find_in opened_with on_device as_staged under_way begins staged is_next confirmed barred after_commit committed
+unfolding table one_of known run_scoped has_free seq_fits free_fits widths numbers_len clock_known clock_fits plain_record bit_step bit_steps octet octets fcs header_check frame_check unit_up_to program_unit read_unit region_length allowed settings round_up programmed_from first_programmed erased ands programmed laid_over bytes_le value_le field_bytes fields body_len record_len well_given payload_fits payload_len with_unit encoded_len_for encoded_len numbers_of payload_of checked_header header_of covered_of check_of frame_of padding_of seal_byte seal_from body_of record_of sealed_from seal_holds overwritten encoded_bytes encoded length_fits record_with well_formed body_at header_at frame_len_of frame_under decoded settled judged shape_of stands walk_over walk scanned step_of capacity_of laid tail_reads further wanted made seen_by paged reads_at reads_all walk_from reads_through before step to_end founds carries kept latest find_in opened_with on_device as_staged under_way begins staged is_next confirmed barred after_commit committed
 numbers = refl

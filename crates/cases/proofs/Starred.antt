@@ -17,7 +17,7 @@ use Rattle.recovery.specs.declared.next.Ending.{Ending}
 use Rattle.recovery.specs.declared.next.Ending.TheVariants.{Clean, Damaged}
 use Rattle.recovery.specs.declared.next.Stepped.{Stepped}
 use Rattle.look.specs.Reads.{capacity_of, laid, tail_reads, further, wanted, made, seen_by, paged, reads_at, reads_all}
-use Rattle.recovery.specs.Next.{walk_from, page_after, before, step, fresh}
+use Rattle.recovery.specs.Next.{walk_from, reads_through, before, step, fresh}
 
 pub data Case : Type 0 where
   -- the record length for a payload's length, with a program unit
@@ -92,5 +92,5 @@ results =
     ∷ []
 
 pub starred : map tried inputs ≡ results
-unfolding unit_up_to program_unit round_up body_len record_len payload_fits with_unit encoded_len_for seal_byte seal_from read_unit region_length allowed programmed_from erased laid_over shape_of stands walk_over walk capacity_of laid tail_reads further wanted made seen_by paged reads_at reads_all walk_from page_after before step inputs results
+unfolding unit_up_to program_unit round_up body_len record_len payload_fits with_unit encoded_len_for seal_byte seal_from read_unit region_length allowed programmed_from erased laid_over shape_of stands walk_over walk capacity_of laid tail_reads further wanted made seen_by paged reads_at reads_all walk_from reads_through before step inputs results
 starred = refl

@@ -50,7 +50,7 @@ abbrev pub spare : List ℕ
 spare = replicate 64 0
 
 abbrev pub opens_by : WriteAmplification → Walk → Opening
-opens_by w x = going_on w (units 64 4 1) (last_of (fresh (units 64 4 1)) x)
+opens_by w x = going_on w (units 64 4 1) (last_of (fresh (units 64 4 1)) 0 x)
 
 -- what a call comes to, an opening by the walk without a page
 abbrev pub plainly : Machine → Call → Outcome

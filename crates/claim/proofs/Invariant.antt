@@ -112,9 +112,9 @@ module _ (n a r : ℕ) (ok : allowed n a r ≡ true) where
     firm_inv : (base s : List ℕ) (o : ℕ) (x : Given) (w : WriteAmplification) (bs : List Given) → Sound s → Busy a base s o x bs
         → Inv (at (machine s s (holds (busy 2 o x (length (payload_for x)) w))) true (under x) bs)
 
-  -- the walk of an opening: no page in it
+  -- the walk of an opening: no page in it, and no number of reads
   pub opening_is : (w : WriteAmplification) (s page : List ℕ) → Sound s → Large page
-      → (opened_with w a r s page).opening ≡ going_on w g (last_of (fresh g) (walk (plain a) s 0))
+      → (opened_with w a r s page).opening ≡ going_on w g (last_of (fresh g) 0 (walk (plain a) s 0))
   unfolding opened_with settings
   opening_is w s page x h = rw (x.size, ok) (go (not (may_go_on w))) where
     t : Goes (fresh g) (founds (fresh g) s page) (to_end (fresh g) s page).out (walk (plain a) s 0)
@@ -122,7 +122,7 @@ module _ (n a r : ℕ) (ok : allowed n a r ≡ true) where
         run_without_page (fresh g) s page (record { still = refl; units = ok; size = x.size }) x.bytes (capacity_large (length page) r both_units.1 (omega (arith, h)))
 
     go : (b : Bool) → (cond b (unopened CountTooLarge page) (opening_after w g (to_end (fresh g) s page))).opening
-        ≡ cond b (Err CountTooLarge) (opening_of w g (last_of (fresh g) (walk (plain a) s 0)))
+        ≡ cond b (Err CountTooLarge) (opening_of w g (last_of (fresh g) 0 (walk (plain a) s 0)))
     go true = refl
     go false = ap (opening_of w g) t.ends
 
@@ -138,7 +138,7 @@ module _ (n a r : ℕ) (ok : allowed n a r ≡ true) where
           P : Opening → Type 0
           P y = Inv (called (at (machine s s held) k nothing bs) (opening w page) (after_opening (machine s s held) y))
 
-          go : (e : Stop) → (walk (plain a) s 0).stop ≡ e → P (opening_of w g (last_of (fresh g) (record { points = (walk (plain a) s 0).points; at = (walk (plain a) s 0).at; stop = e })))
+          go : (e : Stop) → (walk (plain a) s 0).stop ≡ e → P (opening_of w g (last_of (fresh g) 0 (record { points = (walk (plain a) s 0).points; at = (walk (plain a) s 0).at; stop = e })))
           go End f = ready_inv s (walk (plain a) s 0).at w bs x (opened_ready a some s bs (skipped_local a some) v f)
           go (Bad e) f = lost_inv s bs x v
           go (BadTail i) f = lost_inv s bs x v

@@ -26,12 +26,13 @@ use Rattle.place.specs.declared.Stop.TheVariants.{End, Bad, BadTail, NoSeal, NoS
 use Rattle.place.specs.declared.Stand.{Stand}
 use Rattle.place.specs.declared.Stand.TheVariants.{Met, Passed, Over}
 use Rattle.place.specs.AtOffset.{settled, judged_by, judged, Shape, Short, Blank, BadHeader, Overlong, Whole, headed, shape_of, stand_by, stands, end_answer}
+use Rattle.counts.specs.Counts.{adds}
 use Rattle.place.specs.Walk.{Walk, walk, Step, meets, stops, first_step, step_offsets}
 use Rattle.place.proofs.Cases.{settled_case}
 use Rattle.place.proofs.Walks.{each_walk}
 use Rattle.recovery.specs.declared.next.Recovery.{Recovery}
 use Rattle.recovery.specs.declared.next.Found.{Found as OneFound}
-use Rattle.recovery.specs.Next.{Answer, arrived, walk_from, page_after, with_page, step_in, step, NextStep, part_at}
+use Rattle.recovery.specs.Next.{Answer, arrived, walk_from, reads_through, with_page, step_in, step, NextStep, part_at}
 use Rattle.recovery.specs.declared.next.Stepped.{Stepped}
 use Rattle.look.specs.Reads.{capacity_of, Read, laid, further, header_size, wanted, made, seen_by, paged, reads_at, reads_all}
 use Rattle.look.proofs.Fronts.{capped, capped_most, front_read}
@@ -196,9 +197,9 @@ module _ (region : List ℕ) where
         (λ o e _ page c. tt)
 
 module _ (s : Recovery) (region page : List ℕ) where
-  paged_arrived : (z : Step) (q : List ℕ) → HoldsStep region q z → Paged region q (arrived s z).answer
-  paged_arrived (meets o x) q k = k
-  paged_arrived (stops o e) q k = go e where
+  paged_arrived : (n : ℕ) (z : Step) (q : List ℕ) → HoldsStep region q z → Paged region q (arrived s n z).answer
+  paged_arrived n (meets o x) q k = k
+  paged_arrived n (stops o e) q k = go e where
     go : (d : Stop) → Paged region q (end_answer o d)
     go End = tt
     go (Bad x) = tt
@@ -213,7 +214,7 @@ module _ (s : Recovery) (region page : List ℕ) where
   paged_says (Err e) k = tt
 
   paged_step : Paged region (step s region page).page (step s region page).out.answer
-  unfolding walk_from page_after
+  unfolding walk_from reads_through
   paged_step = subst (λ d. Paged region d.page d.out.answer) (sym (step_view s region page)) (go (view s region) (is_before s region)) where
     go : (b : Before) → IsBefore s region b
         → Paged region (unless b (with_page page) (step_in s region page (walk_from s region (length page)))).page (unless b (with_page page) (step_in s region page (walk_from s region (length page)))).out.answer
@@ -222,7 +223,9 @@ module _ (s : Recovery) (region page : List ℕ) where
         let g = s.geometry in
         let c = capped (length page) g.read_size _ refl in
         let m = capped_most (length page) g.read_size _ refl in
-        paged_arrived (first_step (walk_from s region (length page))) (page_after s region (step_offsets (walk_from s region (length page)).points (walk_from s region (length page)).at) page)
+        let w : Walk = walk_from s region (length page) in
+        let reads : List Read = reads_through s region (length page) (step_offsets w.points w.at) in
+        paged_arrived (adds s.reads (length reads)) (first_step w) (laid region reads page)
         (holds_walk region g.program_size g.read_size (capacity_of (length page) g.read_size) (limits g.bytes g.program_size g.read_size k.units).program_least s.offset page (omega (arith, c, m)))
 
 -- The payload of a record that a step finds is that part of the page which its place and length give, with the bytes that stand in the region.

@@ -20,7 +20,7 @@ use Rattle.place.specs.Walk.{plain, walk, Step, meets, stops, first_step}
 use Rattle.recovery.specs.declared.next.Stepped.{Stepped}
 use Rattle.recovery.specs.declared.next.Recovery.{Recovery}
 use Rattle.recovery.specs.declared.next.Found.{Found as OneFound}
-use Rattle.recovery.specs.Next.{Answer, arrived, walk_from, page_after, is_open, before, Done, with_page, step_in, step, NextStep, fresh}
+use Rattle.recovery.specs.Next.{Answer, state_at, arrived, walk_from, is_open, before, Done, with_page, step_in, step, NextStep, fresh}
 use Rattle.look.specs.Reads.{capacity_of, paged}
 use Rattle.recovery.proofs.Runs.{next_step}
 use Rattle.look.proofs.Pages.{capacity_large}
@@ -42,18 +42,36 @@ record Keeps (s : Recovery) (p : List ℕ) (d : Done) : Type 0 where
   settings : d.out.state.geometry ≡ s.geometry
   long : length d.page ≡ length p
 
-arrived_geometry : (s : Recovery) (z : Step) → (arrived s z).state.geometry ≡ s.geometry
-arrived_geometry s (meets o x) = refl
-arrived_geometry s (stops o e) = refl
+arrived_geometry : (s : Recovery) (n : ℕ) (z : Step) → (arrived s n z).state.geometry ≡ s.geometry
+arrived_geometry s n (meets o x) = refl
+arrived_geometry s n (stops o e) = refl
 
 step_keeps : (s : Recovery) (region p : List ℕ) → Keeps s p (step s region p)
-unfolding step before page_after
+unfolding step before
 step_keeps s region p =
     let g : Geometry = s.geometry in
     cond_case (Keeps s p) (not (is_open s.ending)) (λ _. record { settings = refl; long = refl })
     (λ _. cond_case (Keeps s p) (not (allowed g.bytes g.program_size g.read_size)) (λ _. record { settings = refl; long = refl })
     (λ _. cond_case (Keeps s p) (not (eqb (length region) g.bytes)) (λ _. record { settings = refl; long = refl })
-    (λ _. record { settings = arrived_geometry s (first_step (walk_from s region (length p))); long = laid_long region _ p })))
+    (λ _. record { settings = arrived_geometry s _ (first_step (walk_from s region (length p))); long = laid_long region _ p })))
+
+-- a state with another number of reads
+abbrev counted : ℕ → Recovery → Recovery
+counted n s = state_at s s.offset s.ending n
+
+-- what is found does not go by that number
+found_uncounted : (n : ℕ) (s : Recovery) (region page : List ℕ) → founds (counted n s) region page ≡ founds s region page
+unfolding founds before walk_from
+found_uncounted n s region page = refl
+
+-- the same answer and, but for the number of reads, the same state
+record Alike (x y : Stepped) : Type 0 where
+  answer : x.answer ≡ y.answer
+  state : y.state ≡ counted y.state.reads x.state
+
+arrived_alike : (s : Recovery) (n m : ℕ) (z : Step) → Alike (arrived s n z) (arrived s m z)
+arrived_alike s n m (meets o x) = record { answer = refl; state = refl }
+arrived_alike s n m (stops o e) = record { answer = refl; state = refl }
 
 -- two promises of one step settle the same answer, state and page
 module _ (region : List ℕ) (s : Recovery) (p : List ℕ) (x y : Stepped) (q t : List ℕ) (k : NextStep s region p x q) (l : NextStep s region p y t) where
@@ -112,16 +130,19 @@ module _ (region : List ℕ) (b : AllBytes region) (g : Geometry) (ok : allowed 
     free : (p : List ℕ) → Large p → walk (paged a r (capacity_of (length p) r)) region o ≡ walk (plain a) region o
     free p hp = page_free a r (capacity_of (length p) r) o region units.0 k.read_least k.read_most b (capacity_large (length p) r units.1 (omega (arith, hp)))
 
-  -- so they give the same answer and the same state
-  alike : (s : Recovery) (p q : List ℕ) → s.geometry ≡ g → Large p → Large q → (step s region p).out ≡ (step s region q).out
+  -- so they give the same answer and the same state, but for the number of reads
+  alike : (s : Recovery) (p q : List ℕ) → s.geometry ≡ g → Large p → Large q → Alike (step s region p).out (step s region q).out
   unfolding walk_from
-  alike s p q e hp hq = ap (λ d. d.out) (step_view s region p) ∙ go (view s region) ∙ sym (ap (λ d. d.out) (step_view s region q)) where
-    walks : walk_from s region (length p) ≡ walk_from s region (length q)
-    walks = rw e (same s.offset p q hp hq)
+  alike s p q e hp hq =
+      subst (λ d. Alike d.out (step s region q).out) (sym (step_view s region p))
+      (subst (λ d. Alike (unless (view s region) (with_page p) (step_in s region p (walk_from s region (length p)))).out d.out) (sym (step_view s region q)) (go (view s region)))
+    where
+      walks : walk_from s region (length p) ≡ walk_from s region (length q)
+      walks = rw e (same s.offset p q hp hq)
 
-    go : (x : Before) → (unless x (with_page p) (step_in s region p (walk_from s region (length p)))).out ≡ (unless x (with_page q) (step_in s region q (walk_from s region (length q)))).out
-    go (says x) = refl
-    go looks = ap (λ w. arrived s (first_step w)) walks
+      go : (x : Before) → Alike (unless x (with_page p) (step_in s region p (walk_from s region (length p)))).out (unless x (with_page q) (step_in s region q (walk_from s region (length q)))).out
+      go (says x) = record { answer = refl; state = refl }
+      go looks = rw walks (arrived_alike s _ _ (first_step (walk_from s region (length q))))
 
   -- what the steps of a caller read is what a run with one page finds
   reads_found_lem : (n : ℕ) (s : Recovery) (pages : ℕ → List ℕ) (page : List ℕ) → s.geometry ≡ g → ((i : ℕ) → Large (pages i)) → Large page → length region - s.offset < n
@@ -131,10 +152,12 @@ module _ (region : List ℕ) (b : AllBytes region) (g : Geometry) (ok : allowed 
   reads_found_lem (suc n) s pages page e hs h l =
       let x : Done = step s region (pages 0) in
       let y : Done = step s region page in
-      let same_out : x.out ≡ y.out = alike s (pages 0) page e (hs 0) h in
-      go y.out.answer (ap (λ z. z.answer) same_out) (run_step s region page)
+      let same_out : Alike x.out y.out = alike s (pages 0) page e (hs 0) h in
+      let same_found : founds y.out.state region y.page ≡ founds x.out.state region y.page =
+      ap (λ u. founds u region y.page) same_out.state ∙ found_uncounted y.out.state.reads x.out.state region y.page in
+      go y.out.answer same_out.answer (run_step s region page)
       (λ f i.
-      subst (λ u. Reads region x.out.state (later pages) (all_said_in region (founds u region y.page))) (ap (λ z. z.state) same_out)
+      subst (λ fs. Reads region x.out.state (later pages) (all_said_in region fs)) (sym same_found)
       (reads_found_lem n x.out.state (later pages) y.page ((step_keeps s region (pages 0)).settings ∙ e) (λ j. hs _)
       (omega (arith, (step_keeps s region page).long, h))
       (omega (

@@ -32,10 +32,11 @@ use Rattle.place.specs.declared.Stand.TheVariants.{Met, Passed, Over}
 use Rattle.place.specs.AtOffset.{redeliverable, under_seal, skip_or, settled, judged_by, judged, Shape, Short, Blank, BadHeader, Overlong, Whole, shape_of, short_stop, tail_stop, stand_by, stands, end_answer}
 use Rattle.place.specs.Walk.{Look, Waypoint, finds, skips, Walk, onward, walk_over, walk, Step, meets, stops, step_along, first_step, step_offsets}
 use Rattle.place.proofs.Judgements.{to_end_lem}
-use Rattle.look.specs.Reads.{Read, capacity_of, wanted, seen_by, paged}
+use Rattle.counts.specs.Counts.{adds}
+use Rattle.look.specs.Reads.{Read, capacity_of, laid, wanted, seen_by, paged}
 use Rattle.recovery.specs.declared.next.Recovery.{Recovery}
 use Rattle.recovery.specs.declared.next.Stepped.{Stepped}
-use Rattle.recovery.specs.Next.{state_at, ending_by, arrived, walk_from, page_after, is_open, before, with_page, step_in, step}
+use Rattle.recovery.specs.Next.{state_at, ending_by, arrived, walk_from, reads_through, is_open, before, with_page, step_in, step}
 use Rattle.recovery.specs.declared.next.Ending.TheVariants.{Incomplete}
 use Rattle.scan.specs.declared.Scan.{Scan}
 use Rattle.scan.specs.Scan.{scanned_by, scanned, scan_look, answer_at, step_of}
@@ -194,9 +195,9 @@ bare_ending NoSeal = refl
 bare_ending (NoSkip i) = refl
 bare_ending (TooSmall n) = refl
 
-bare_arrived : (s : Recovery) (z : Step) → stepped_without (arrived s z) ≡ arrived s (bare_step z)
-bare_arrived s (meets o x) = refl
-bare_arrived s (stops o e) = ap₂ (λ d y. record { state = state_at s o d; answer = y }) (bare_ending e) (bare_end _ o e)
+bare_arrived : (s : Recovery) (n : ℕ) (z : Step) → stepped_without (arrived s n z) ≡ arrived s n (bare_step z)
+bare_arrived s n (meets o x) = refl
+bare_arrived s n (stops o e) = ap₂ (λ d y. record { state = state_at s o d n; answer = y }) (bare_ending e) (bare_end _ o e)
 
 module _ (s : Recovery) (region page : List ℕ) where
   abbrev cap : ℕ
@@ -209,14 +210,17 @@ module _ (s : Recovery) (region page : List ℕ) where
   was = was_paged s.geometry.program_size s.geometry.read_size cap
 
   bare_stepped : (w : Walk) → done_without (step_in s region page w) ≡ step_in s region page (bare_walk w)
-  bare_stepped w = ap (with_page (page_after s region (step_offsets w.points w.at) page)) (bare_arrived s (first_step w) ∙ ap (arrived s) (bare_first w))
+  bare_stepped w =
+      let reads : List Read = reads_through s region (length page) (step_offsets w.points w.at) in
+      let n : ℕ = adds s.reads (length reads) in
+      ap (with_page (laid region reads page)) (bare_arrived s n (first_step w) ∙ ap (arrived s n) (bare_first w))
 
   recovery_same : done_without (step s region page) ≡ recovered s region page
   unfolding step before walk_from
   recovery_same =
       three done_without (not (is_open s.ending)) (not (allowed s.geometry.bytes s.geometry.program_size s.geometry.read_size)) (not (eqb (length region) s.geometry.bytes))
       (with_page page (record { state = s; answer = Ok None })) (with_page page (record { state = s; answer = Err Settings }))
-      (with_page page (record { state = state_at s s.offset Incomplete; answer = Err WrongDevice }))
+      (with_page page (record { state = state_at s s.offset Incomplete s.reads; answer = Err WrongDevice }))
       (step_in s region page (walk now region s.offset)) (step_in s region page (walk was region s.offset)) refl refl refl
       (bare_stepped (walk now region s.offset)
       ∙ ap (step_in s region page) (bare_all now was (bare_paged s.geometry.program_size s.geometry.read_size cap) region s.offset))

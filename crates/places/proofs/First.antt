@@ -244,9 +244,9 @@ module _ (s : Recovery) (region page : List ℕ) where
   abbrev PlacedDone : Done → Type 0
   PlacedDone d = Placed (Read s.geometry.program_size region d.out.state.offset) d.out.answer
 
-  placed_arrived : (z : Step) → MarkedStep s.geometry.program_size (λ o t. Over End) region (λ o. tt) z → Placed (Read s.geometry.program_size region (arrived s z).state.offset) (arrived s z).answer
-  placed_arrived (meets o x) h = tt
-  placed_arrived (stops o e) h = placed_end _ s.geometry.program_size region o e h
+  placed_arrived : (n : ℕ) (z : Step) → MarkedStep s.geometry.program_size (λ o t. Over End) region (λ o. tt) z → Placed (Read s.geometry.program_size region (arrived s n z).state.offset) (arrived s n z).answer
+  placed_arrived n (meets o x) h = tt
+  placed_arrived n (stops o e) h = placed_end _ s.geometry.program_size region o e h
 
   recovery_placed : PlacedDone (step s region page)
   unfolding step before walk_from
@@ -260,7 +260,7 @@ module _ (s : Recovery) (region page : List ℕ) where
       (λ e. cond_case PlacedDone (not (eqb (length region) s.geometry.bytes)) (λ _. tt)
       (λ _.
       let some : 0 < a = (limits s.geometry.bytes a r (not-false _ e)).program_least in
-      placed_arrived (first_step (walk look region s.offset)) (marked_first a look region (λ o. marked_paged a (drop o region) r cap o) (paged_steady a r cap some) s.offset))))
+      placed_arrived _ (first_step (walk look region s.offset)) (marked_first a look region (λ o. marked_paged a (drop o region) r cap o) (paged_steady a r cap some) s.offset))))
 
 module _ (s : Scan) (j : List ℕ) where
   abbrev PlacedScan : ScanStepped → Type 0

@@ -104,7 +104,7 @@ module _ (a r : ℕ) (region : List ℕ) where
   walk_fits h e =
       let w : Walk = walk (plain a) region 0 in
       let fs : List Found = found_among w.points in
-      let last : Stepped = last_of (fresh (record { bytes = length region; program_size = a; read_size = r })) w in
+      let last : Stepped = last_of (fresh (record { bytes = length region; program_size = a; read_size = r })) 0 w in
       let i : length (record_lines fs) ≤ 3 * (length region - 0) = walk_room region a (limits (length region) a r e).program_least h 0 in
       omega (arith, i, end_most last.state.ending last (length fs) (record_bytes fs), length-append (record_lines fs) (end_line last (length fs) (record_bytes fs)))
 

@@ -27,9 +27,9 @@ record_bytes (x ∷ xs) = x.«record».len + record_bytes xs
 unfoldable pub lines_of : List OneFound → Stepped → List ℕ
 lines_of xs last = record_lines xs ++ end_line last (length xs) (record_bytes xs)
 
--- the lines of a walk from a region's start
+-- the lines of a walk from a region's start; no line says how many reads were made
 abbrev pub walk_lines : Geometry → Walk → List ℕ
-walk_lines g w = lines_of (found_among w.points) (last_of (fresh g) w)
+walk_lines g w = lines_of (found_among w.points) (last_of (fresh g) 0 w)
 
 -- with the settings checked
 abbrev pub listed_with : List ℕ → Checked → List ℕ
