@@ -1,0 +1,2 @@
+-- The definition of the region whose recovery makes the most reads.
+pub mod Written
