@@ -1,6 +1,6 @@
 // Refusals, lengths and settings as numbers.
 ghost use Rattle.std.specs.Prelude.{◌≡◌, MatchResult};
-ghost use Rattle.numbers.specs.Refusing.{not_refused, refused_by, length_by, frame_length_by, settings_by};
+ghost use Rattle.numbers.specs.Refusing.{not_refused, refused_by, done_by, length_by, frame_length_by, settings_by};
 
 use storage::geometry::Geometry;
 use waymaker_core::error::{DecodeError, Refusal};
@@ -71,6 +71,14 @@ pub fn apart<T: Drop>(answer: Result<T, Refusal>, otherwise: T) -> (Refused, T)
     match answer {
         Ok(value) => (NONE, value),
         Err(refusal) => (Refused::from(refusal), otherwise),
+    }
+}
+
+impl From<Result<(), Refusal>> for Refused {
+    ghost from_gives = { λ answer refused. refused ≡ done_by answer };
+
+    fn from(answer: Result<(), Refusal>) -> Refused {
+        apart(answer, ()).0
     }
 }
 
