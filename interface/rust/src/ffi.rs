@@ -89,6 +89,7 @@ pub struct Recovery {
     pub geometry: Geometry,
     pub offset: u32,
     pub ending: u8,
+    pub reads: u64,
 }
 
 #[repr(C)]
@@ -238,4 +239,6 @@ extern "C" {
 
     pub fn jardolento_written_plus(x: Written, y: Written) -> Written;
     pub fn jardolento_overhead_bytes(written: Written) -> u64;
+
+    pub fn jardolento_costliest(program_size: usize, read_size: usize, region: *mut u8, region_len: usize) -> Refused;
 }

@@ -37,7 +37,7 @@ pub use frame::{
     Decoded, Frame, LONGEST_RECORD,
 };
 pub use record::{Found, Given, RecordRef};
-pub use recovery::{find, Ending, Geometry, Recovery, Scan, PAGE_BYTES};
+pub use recovery::{costliest, find, Ending, Geometry, Recovery, Scan, PAGE_BYTES};
 pub use refusal::Refusal;
 
 /// The version, that of the C header; the package's tests compare the two.

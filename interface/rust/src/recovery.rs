@@ -82,6 +82,20 @@ impl Recovery {
     pub fn offset(&self) -> u32 {
         self.0.offset
     }
+
+    /// How many reads it has made of the region since its start, the headers' among them. One that the page did not
+    /// hold was refused and not made.
+    pub fn reads(&self) -> u64 {
+        self.0.reads
+    }
+}
+
+/// Writes a region of the slice's length whose recovery makes the most reads, over whatever it held: the shortest
+/// records, one right behind the other, and 0xFF behind the last. Refused settings leave it unchanged.
+pub fn costliest(program_size: usize, read_size: usize, region: &mut [u8]) -> Result<(), Refusal> {
+    // SAFETY: the pointer and the length are of one slice, borrowed alone.
+    let refused = unsafe { ffi::jardolento_costliest(program_size, read_size, region.as_mut_ptr(), region.len()) };
+    Refusal::unless(refused, ())
 }
 
 /// A scan's state. The field is public, so that any state can be passed and kept.
