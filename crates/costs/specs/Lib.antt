@@ -1,0 +1,2 @@
+-- The theorem on what a recovery costs.
+pub mod Costs
