@@ -1,6 +1,6 @@
 -- The most reads, by the region's length: monotone, and two for each shortest record.
 -- Assumes nothing.
-use mathlib.Core.Path.{◌≡◌, refl, ap, ap₂, ◌∙◌}
+use mathlib.Core.Path.{◌≡◌, refl, ap}
 use mathlib.Core.Bool.{Bool, true, false}
 use Prim.Native.Nat.{ℕ, ◌+◌, ◌-◌, ◌*◌, ◌/◌, ◌%◌, ◌≤◌, ◌<◌}
 use native.Mathlib.Nat.{div-eq-sub-div, div-eq_of_lt, mod-eq_of_lt, mod-eq-sub-mod, mod-eq-sub-div-mul, div-mul-le_self, le-div_iff_mul-le}
@@ -17,7 +17,7 @@ pub left_case : (P : ℕ → Type 0) (m : ℕ) → (m ≡ 0 → P 0) → (0 < m 
 unfolding left_over
 left_case P m none few enough =
     cond_case P (eqb m 0) (λ e. none (eqb-true m 0 e))
-    (λ e. cond_case P (ltb m 12) (λ l. few (omega (arith, eqb-false m 0 e)) (ltb-true m 12 l)) (λ l. enough (ltb-false m 12 l)))
+    (λ e. cond_case P (ltb m _) (λ l. few (omega (arith, eqb-false m 0 e)) (omega (arith, ltb-true m _ l))) (λ l. enough (omega (arith, ltb-false m _ l))))
 
 pub left_most : (m : ℕ) → left_over m ≤ 2
 left_most m = left_case (λ x. x ≤ 2) m (λ e. omega arith) (λ p q. omega arith) (λ p. omega arith)
@@ -35,7 +35,10 @@ module _ (a : ℕ) (h : 0 < a) where
   -- where no record fits, all is left over
   pub none_fits : (m : ℕ) → m < shortest a → most_reads a m ≡ left_over m
   unfolding most_reads
-  none_fits m l = ap₂ (λ q j. 2 * q + left_over j) (div-eq_of_lt l) (mod-eq_of_lt l) ∙ omega arith
+  none_fits m l =
+      let d : m / shortest a ≡ 0 = div-eq_of_lt l in
+      let e : m % shortest a ≡ m = mod-eq_of_lt l in
+      omega (arith, d, ap left_over e)
 
   -- where one fits, it takes two
   pub one_fits : (m : ℕ) → shortest a ≤ m → most_reads a m ≡ 2 + most_reads a (m - shortest a)
@@ -44,7 +47,7 @@ module _ (a : ℕ) (h : 0 < a) where
       let s : ℕ = shortest a in
       let d : m / s ≡ (m - s) / s + 1 = div-eq-sub-div {m = s} {n = m} some l in
       let e : m % s ≡ (m - s) % s = mod-eq-sub-mod {n = m} {m = s} l in
-      ap₂ (λ q j. 2 * q + left_over j) d e ∙ omega arith
+      omega (arith, d, ap left_over e)
 
   pub monotone : (m n : ℕ) → m ≤ n → most_reads a m ≤ most_reads a n
   unfolding most_reads

@@ -213,9 +213,10 @@ written_exactly a r cap n h l =
 
 pub reads_bounded : Theorem
 reads_bounded = record {
-  at_most = walk_at_most;
+  at_most = λ a r cap region h l. omega (arith, walk_at_most a r cap region (omega (arith, h)) (omega (arith, l)));
   exactly = λ a r r' cap region region' w l.
       let d = done a r region region' w in
-      subst (λ s. length (whole_reads a r' cap s) ≡ most_reads a (length region)) (sym d.all)
-      (written_exactly a r' cap (length region) (program_bounds a d.unit).least l);
+      let e : length (whole_reads a r' cap region') ≡ most_reads a (length region) =
+      ap (λ s. length (whole_reads a r' cap s)) d.all ∙ written_exactly a r' cap (length region) (program_bounds a d.unit).least (omega (arith, l)) in
+      omega (arith, e);
 }
