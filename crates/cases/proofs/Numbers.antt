@@ -44,24 +44,24 @@ abbrev clockless : Record
 clockless = plain_record (record { 0 = 5 }) (record { 0 = 7 })
 
 -- the first as it is written with a = 4, and as it is before its commit
-abbrev whole : List ℕ
+abbrev pub whole : List ℕ
 whole = record_of 4 6 7 []
 
-abbrev loose : ℕ → List ℕ
+abbrev pub loose : ℕ → List ℕ
 loose k = body_of 4 k 0 [] ++ replicate 4 0xff
 
 -- a header of version 2 with its check
 abbrev second : List ℕ
 second = let h : List ℕ = 0x57 ∷ 0x4d ∷ 2 ∷ drop 3 (checked_header 6 7 0) in h ++ bytes_le 2 (header_check h)
 
-abbrev units : ℕ → ℕ → ℕ → Geometry
+abbrev pub units : ℕ → ℕ → ℕ → Geometry
 units n a r = record { bytes = n; program_size = a; read_size = r }
 
-abbrev blank : ℕ → List ℕ
+abbrev pub blank : ℕ → List ℕ
 blank n = replicate n 0xff
 
 -- a region of n bytes, all erased but byte i
-abbrev marked : ℕ → ℕ → List ℕ
+abbrev pub marked : ℕ → ℕ → List ℕ
 marked i n = blank i ++ 0xfe ∷ blank (n - (i + 1))
 
 -- a record's body and a slot that holds no seal, in which byte i alone is written

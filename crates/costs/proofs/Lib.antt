@@ -2,3 +2,4 @@
 pub mod Bounds
 pub mod Looked
 pub mod Walked
+pub mod Costs

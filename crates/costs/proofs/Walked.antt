@@ -11,7 +11,6 @@ use lib.Seq.{drop_at, drop-drop}
 use borrow.Author.Tests.{ltb-true, ltb-false}
 use Rattle.waymaker_core.specs.declared.«record».RecordRef.TheVariants.{TimerFired}
 use Rattle.waymaker_core.specs.Kinds.{one_of, known, run_scoped, has_free, seq_fits, free_fits, widths, numbers_len, clock_fits, plain_record}
-use Rattle.storage.proofs.Units.{program_bounds}
 use Rattle.storage.specs.Media.{erased}
 use Rattle.storage.proofs.ErasedBytes.{erased_replicate}
 use Rattle.frame.specs.Bytes.{field_bytes}
@@ -28,16 +27,22 @@ use Rattle.place.specs.AtOffset.{stands}
 use Rattle.place.specs.Walk.{Walk, walk, offsets}
 use Rattle.place.proofs.Lengths.{moves}
 use Rattle.place.proofs.Walks.{each_walk}
-use Rattle.look.specs.Reads.{paged, reads_at, reads_all}
+use Rattle.look.specs.Reads.{Read, paged, reads_at, reads_all}
 use Rattle.look.proofs.Pages.{rest_enough}
 use Rattle.look.proofs.Near.{paged_steady}
 use Rattle.claim.proofs.Looks.{looked_whole}
 use Rattle.costliest.specs.Written.{shortest, shortest_record, costliest_region}
 use Rattle.costliest.proofs.Region.{shortest_is, shortest_least, record_length, one_more, none_more, region_length}
-use Rattle.costliest.proofs.Laying.{timer, done}
-use Rattle.costs.specs.Costs.{left_over, most_reads, whole_reads, Theorem}
+use Rattle.costliest.proofs.Laying.{timer}
+use Rattle.costs.specs.Costs.{left_over, most_reads}
 use Rattle.costs.proofs.Bounds.{left_most, none_fits, one_fits, left_least, goes_on}
 use Rattle.costs.proofs.Looked.{moves_far, cost_most, erased_cost, met_cost}
+
+-- the reads of a recovery that goes the whole walk, from the region's start to its end
+unfoldable pub whole_reads : ℕ → ℕ → ℕ → List ℕ → List Read
+whole_reads a r cap region =
+    let w : Walk = walk (paged a r cap) region 0 in
+    reads_all a r cap region (offsets w.points w.at)
 
 -- what the offsets of a walk take in all
 abbrev cost : ℕ → ℕ → ℕ → List ℕ → Walk → ℕ
@@ -210,13 +215,3 @@ pub written_exactly : (a r cap n : ℕ) → 0 < a → n ≤ cap → length (whol
 written_exactly a r cap n h l =
     let size : length (costliest_region a n) ≡ n = region_length a n h in
     walk_exactly a r cap (costliest_region a n) h (omega (arith, size, l)) (ap (costliest_region a) (sym size)) ∙ ap (most_reads a) size
-
-pub reads_bounded : Theorem
-reads_bounded = record {
-  at_most = λ a r cap region h l. omega (arith, walk_at_most a r cap region (omega (arith, h)) (omega (arith, l)));
-  exactly = λ a r r' cap region region' w l.
-      let d = done a r region region' w in
-      let e : length (whole_reads a r' cap region') ≡ most_reads a (length region) =
-      ap (λ s. length (whole_reads a r' cap s)) d.all ∙ written_exactly a r' cap (length region) (program_bounds a d.unit).least (omega (arith, l)) in
-      omega (arith, e);
-}

@@ -4,7 +4,7 @@
 ghost use Rattle.costs.specs.Costs.{Theorem};
 
 // Does nothing: its promise is the theorem, so that the crate is proved only if the theorem is.
-#[tactic(auto, using(crate::proofs::Walked::reads_bounded))]
+#[tactic(auto, using(crate::proofs::Costs::reads_bounded))]
 pub fn reads_are_bounded()
     ensures { Theorem }
 {}

@@ -3,3 +3,4 @@ pub mod Tried
 pub mod Steps
 pub mod Foreign
 pub mod Counted
+pub mod Costs

@@ -11,9 +11,9 @@ use Rattle.progress.specs.Phases.{busy}
 use Rattle.claim.specs.Events.{Large}
 use Rattle.claim.specs.Claim.{units}
 use Rattle.claim.specs.Instances.{blank, fired, bodied}
-use Rattle.foreign.specs.Steps.{Event, barrier, foreign, Leads}
+use Rattle.foreign.specs.Steps.{barrier, foreign, Leads}
 use Rattle.counted.specs.Counted.{Anything}
-use Rattle.instances.specs.Foreign.{fired_bytes, noted, noted_behind, stages_to, goes_through}
+use Rattle.instances.specs.Foreign.{noted, noted_behind, stages_to, goes_through}
 
 -- what earlier openings have written
 abbrev pub handed : WriteAmplification

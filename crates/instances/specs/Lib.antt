@@ -2,3 +2,4 @@
 pub mod Table
 pub mod Foreign
 pub mod Counted
+pub mod Costs
