@@ -197,6 +197,8 @@ extern "C" {
     pub fn jardolento_scan_new(align: usize) -> Scan;
     pub fn jardolento_scan_next(state: Scan, journal: *const u8, journal_len: usize) -> ScanStep;
 
+    pub fn jardolento_costliest(program_size: usize, read_size: usize, region: *mut u8, region_len: usize) -> Refused;
+
     pub fn jardolento_find(
         seq: u32,
         program_size: usize,
@@ -239,6 +241,4 @@ extern "C" {
 
     pub fn jardolento_written_plus(x: Written, y: Written) -> Written;
     pub fn jardolento_overhead_bytes(written: Written) -> u64;
-
-    pub fn jardolento_costliest(program_size: usize, read_size: usize, region: *mut u8, region_len: usize) -> Refused;
 }

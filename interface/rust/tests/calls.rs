@@ -1,9 +1,9 @@
 //! That the calls over slices pass everything to C and back: each kind of record, each ending, each step.
 
 use jardolento::{
-    body_len, decode, encode, encoded_len, encoded_len_for, ffi, find, frame_check, frame_len_of, header_check,
-    payload_len, seal, Decoded, Ending, Geometry, Given, Journal, Phase, RecordRef, Recovery, Refusal, Scan, Written,
-    LONGEST_RECORD, PAGE_BYTES,
+    body_len, costliest, decode, encode, encoded_len, encoded_len_for, ffi, find, frame_check, frame_len_of,
+    header_check, payload_len, seal, Decoded, Ending, Geometry, Given, Journal, Phase, RecordRef, Recovery, Refusal,
+    Scan, Written, LONGEST_RECORD, PAGE_BYTES,
 };
 
 const RECORDS: [RecordRef; 9] = [
@@ -254,6 +254,149 @@ fn a_refusal_says_which_byte_is_not_erased() {
     encode(RecordRef::RunFailed { error: b"" }, 4, &mut region).unwrap();
     region[18] = 0xFE;
     assert_eq!(refusal(&region), Some(Refusal::Unsealed { place: None }));
+}
+
+/// One step of a recovery: whether it found a record, with the reads that have been made by then.
+fn stepped(recovery: &mut Recovery, region: &[u8], page: &mut [u8]) -> (Result<bool, Refusal>, u64) {
+    let found = recovery.next(region, page).transpose().map(|found| found.is_some());
+    (found, recovery.reads())
+}
+
+#[test]
+fn reads_are_counted_from_the_start_on() {
+    let (region, _) = appended();
+    let mut page = [0; 256];
+    let mut recovery = Recovery::new(Geometry::new(region.len(), 4, 1).unwrap());
+    assert_eq!(recovery.reads(), 0);
+    // Two reads for each record: its header, and all of it.
+    for (before, _) in RECORDS.iter().enumerate() {
+        let reads = 2 * (before as u64 + 1);
+        assert_eq!(stepped(&mut recovery, &region, &mut page), (Ok(true), reads));
+        // A state that was kept goes on from its own count.
+        recovery = Recovery(recovery.0);
+    }
+    // The 64 erased bytes take a header's read, and one more. Once it has ended there are no others.
+    for _ in 0..2 {
+        assert_eq!(stepped(&mut recovery, &region, &mut page), (Ok(false), 20));
+    }
+    assert_eq!(recovery.ending(), Some(Ending::Clean { append_at: region.len() as u32 - 64 }));
+}
+
+#[test]
+fn reads_of_what_is_not_found_are_counted() {
+    let geometry = Geometry::new(64, 4, 1).unwrap();
+    // Through a page of 21 bytes, erased bytes take a read for each page-full, the last of one byte.
+    let mut region = [0xFF; 64];
+    assert_eq!(stepped(&mut Recovery::new(geometry), &region, &mut [0; 21]), (Ok(false), 5));
+    // Those up to the page-full with a byte that is not erased.
+    region[21] = 0;
+    let refused = Err(Refusal::IntegrityFailed { place: Some(21) });
+    assert_eq!(stepped(&mut Recovery::new(geometry), &region, &mut [0; 21]), (refused, 3));
+    // A record that is skipped takes two, within the step that finds the next.
+    encode(RecordRef::TimerFired { seq: 7 }, 4, &mut region).unwrap();
+    region[16..20].fill(0xFF);
+    encode(RecordRef::TimerFired { seq: 7 }, 4, &mut region[20..]).unwrap();
+    assert_eq!(stepped(&mut Recovery::new(geometry), &region, &mut [0; 64]), (Ok(true), 4));
+    // A header that is none takes one.
+    region[0] = 0;
+    let refused = Err(Refusal::IntegrityFailed { place: None });
+    assert_eq!(stepped(&mut Recovery::new(geometry), &region, &mut [0; 64]), (refused, 1));
+    // What is refused before any read takes none.
+    let mut recovery = Recovery(ffi::Recovery { reads: 7, ..Recovery::new(geometry).0 });
+    assert_eq!(stepped(&mut recovery, &region[1..], &mut [0; 64]), (Err(Refusal::WrongDevice), 7));
+}
+
+#[test]
+fn a_read_that_the_page_does_not_hold_is_not_counted() {
+    let mut region = [0xFF; 20];
+    encode(RecordRef::TimerFired { seq: 7 }, 4, &mut region).unwrap();
+    for (page, needed, reads) in [(11, 12, 0), (12, 20, 1), (19, 20, 1)] {
+        let mut recovery = Recovery::new(Geometry::new(20, 4, 1).unwrap());
+        let refused = Err(Refusal::PageTooSmall { needed });
+        assert_eq!(stepped(&mut recovery, &region, &mut vec![0; page]), (refused, reads));
+        assert_eq!(recovery.ending(), Some(Ending::Incomplete { at: 0 }));
+        assert_eq!(stepped(&mut recovery, &region, &mut [0; 20]), (Ok(false), reads));
+    }
+    // The page counts by whole read units: 31 bytes hold one of 16.
+    let mut recovery = Recovery::new(Geometry::new(20, 4, 16).unwrap());
+    assert_eq!(stepped(&mut recovery, &region, &mut [0; 31]), (Err(Refusal::PageTooSmall { needed: 20 }), 1));
+}
+
+#[test]
+fn reads_stop_at_the_largest_number() {
+    let (region, _) = appended();
+    for reads in [u64::MAX - 2, u64::MAX - 1, u64::MAX] {
+        let fresh = Recovery::new(Geometry::new(region.len(), 4, 1).unwrap());
+        let mut recovery = Recovery(ffi::Recovery { reads, ..fresh.0 });
+        for _ in 0..2 {
+            assert_eq!(stepped(&mut recovery, &region, &mut [0; 256]), (Ok(true), u64::MAX));
+        }
+    }
+}
+
+/// A shortest record for program units of up to 4 bytes, made by hand: kind 6, sequence 0, no payload.
+const SHORTEST: [u8; 20] =
+    [0x57, 0x4D, 1, 6, 0, 0, 0, 0, 0, 0, 0x67, 0x16, 0x81, 0x7B, 0x5A, 0x6C, 0x01, 0x7B, 0x5A, 0x6C];
+
+#[test]
+fn the_costliest_region_is_shortest_records() {
+    let mut region = [0x5A; 64];
+    costliest(4, 1, &mut region).unwrap();
+    assert_eq!(region[..60], SHORTEST.repeat(3));
+    assert_eq!(region[60..], [0xFF; 4]);
+    // The read unit changes nothing of it; the program unit changes padding and slot.
+    let mut other = [0; 64];
+    costliest(4, 4096, &mut other).unwrap();
+    assert_eq!(other, region);
+    costliest(1, 1, &mut other[..20]).unwrap();
+    assert_eq!(other[..20], [&SHORTEST[..17], &[0xFF; 3]].concat());
+    // One that holds no record is erased, and the byte behind it stays.
+    other[..20].fill(0x5A);
+    costliest(4, 1, &mut other[..19]).unwrap();
+    assert_eq!(other[..20], [&[0xFF; 19][..], &[0x5A]].concat());
+    costliest(4, 1, &mut []).unwrap();
+}
+
+#[test]
+fn the_costliest_region_is_refused_for_its_settings() {
+    let mut region = [0x5A; 64];
+    for (program_size, read_size) in [(3, 1), (0, 1), (512, 1), ((1 << 32) + 4, 1), (4, 0), (4, 3), (4, 8192)] {
+        assert_eq!(costliest(program_size, read_size, &mut region), Err(Refusal::Settings));
+    }
+    assert_eq!(region, [0x5A; 64]);
+    let mut long = vec![0x5A; 16_777_217];
+    assert_eq!(costliest(4, 1, &mut long), Err(Refusal::Settings));
+    assert!(long.iter().all(|&byte| byte == 0x5A));
+}
+
+/// The reads of a recovery to its end, through a page of the region's length in whole read units.
+fn reads_of(program_size: usize, read_size: usize, region: &[u8]) -> u64 {
+    let mut page = vec![0; region.len().next_multiple_of(read_size)];
+    let mut recovery = Recovery::new(Geometry::new(region.len(), program_size, read_size).unwrap());
+    while recovery.next(region, &mut page).transpose().unwrap().is_some() {}
+    assert!(matches!(recovery.ending(), Some(Ending::Clean { .. })));
+    recovery.reads()
+}
+
+#[test]
+fn the_costliest_region_meets_the_bound() {
+    // The shortest record by hand: 16 in whole program units, and one unit more.
+    for (program_size, shortest) in [(1, 17), (2, 18), (4, 20), (8, 24), (16, 32), (32, 64), (64, 128), (256, 512)] {
+        for len in 0..2 * shortest + 20 {
+            let tail = match len % shortest {
+                0 => 0,
+                1..=11 => 1,
+                _ => 2,
+            };
+            let bound = (2 * (len / shortest) + tail) as u64;
+            let mut region = vec![0; len];
+            for read_size in [1, 8, 16, 512, 4096] {
+                costliest(program_size, read_size, &mut region).unwrap();
+                let reads = reads_of(program_size, read_size, &region);
+                assert_eq!(reads, bound, "units {program_size} and {read_size}, {len} bytes");
+            }
+        }
+    }
 }
 
 /// In the struct's order.

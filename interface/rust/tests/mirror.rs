@@ -211,7 +211,7 @@ fn layouts_are_those_of_c() {
         Length as "length": refused bytes;
         Decoded as "decoded": refused known format_version record free payload frame_len frame_crc;
         Found as "found": offset len record free payload;
-        Recovery as "recovery": geometry offset ending;
+        Recovery as "recovery": geometry offset ending reads;
         RecoveryStep as "recovery_step": state refused is_found found;
         Scan as "scan": align offset stopped;
         ScanStep as "scan_step": state refused is_found found;
