@@ -83,15 +83,43 @@ impl Recovery {
         self.0.offset
     }
 
-    /// How many reads it has made of the region since its start, the headers' among them. One that the page did not
-    /// hold was refused and not made.
+    /// How many reads it has made of the region since its start, those of headers among them. One that the page did
+    /// not hold was refused and not made. [`costliest`] says how many there can be.
     pub fn reads(&self) -> u64 {
         self.0.reads
     }
 }
 
 /// Writes a region of the slice's length whose recovery makes the most reads, over whatever it held: the shortest
-/// records, one right behind the other, and 0xFF behind the last. Refused settings leave it unchanged.
+/// records, sealed, one right behind the other, and 0xFF behind the last. Refused settings leave it unchanged.
+///
+/// How many reads a start-up makes at most is a formula of the lengths; a run over this region makes just as many.
+/// The page holds the region's length, rounded up to the read unit:
+///
+/// ```
+/// use jardolento::{costliest, Geometry, Recovery, Refusal};
+///
+/// fn most_reads(len: usize, program_size: usize) -> usize {
+///     let shortest = 16_usize.next_multiple_of(program_size) + program_size;
+///     let behind = match len % shortest {
+///         0 => 0,
+///         1..=11 => 1,
+///         _ => 2,
+///     };
+///     2 * (len / shortest) + behind
+/// }
+///
+/// fn reads_of_costliest(len: usize, program_size: usize, read_size: usize) -> Result<u64, Refusal> {
+///     let (mut region, mut page) = (vec![0; len], vec![0; len.next_multiple_of(read_size)]);
+///     costliest(program_size, read_size, &mut region)?;
+///     let mut recovery = Recovery::new(Geometry::new(len, program_size, read_size)?);
+///     while recovery.next(&region, &mut page).transpose()?.is_some() {}
+///     Ok(recovery.reads())
+/// }
+///
+/// assert_eq!(most_reads(65_536, 4), 6_554);
+/// assert_eq!(reads_of_costliest(65_536, 4, 1), Ok(6_554));
+/// ```
 pub fn costliest(program_size: usize, read_size: usize, region: &mut [u8]) -> Result<(), Refusal> {
     // SAFETY: the pointer and the length are of one slice, borrowed alone.
     let refused = unsafe { ffi::jardolento_costliest(program_size, read_size, region.as_mut_ptr(), region.len()) };
