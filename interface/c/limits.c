@@ -1,5 +1,5 @@
-/* Tries the calls at their limits: settings, seals, pages, refusals 5, 18 and 24, counts, and loops over what is
- * refused.
+/* Tries the calls at their limits: settings, seals, pages, refusals 5, 18 and 24, counts, reads and the costliest
+ * region, and loops over what is refused.
  *
  *     cc -std=c99 limits.c -L ../../crates/jardolento/out -l jardolento -o limits
  *     ./limits
@@ -15,6 +15,13 @@
 
 /* The largest count that an opening goes on from. */
 #define MOST ((uint64_t)1 << 62)
+
+/* The shortest record for a program unit of 4, by hand: kind 6, sequence 0, no payload. */
+static const uint8_t shortest[20] = {
+    0x57, 0x4D, 1, 6, 0, 0, 0, 0, 0, 0, 0x67, 0x16, /* header */
+    0x81, 0x7B, 0x5A, 0x6C,                         /* frame check */
+    0x01, 0x7B, 0x5A, 0x6C                          /* slot */
+};
 
 static int failed;
 
@@ -306,6 +313,87 @@ static void counts_kept(void)
     CHECK(jardolento_overhead_bytes(counts(2, 1, 0, 0, 0)) == 0);
 }
 
+/* A first step over a region of one record, through so long a page, by a recovery that had made so many reads. */
+static struct jardolento_recovery_step step_behind(uint64_t reads, size_t page_len)
+{
+    uint8_t region[20];
+    uint8_t page[20];
+    struct jardolento_recovery state = jardolento_recovery_new(jardolento_geometry_new(20, 4, 1).geometry);
+
+    CHECK(state.reads == 0);
+    state.reads = reads;
+    memcpy(region, shortest, 20);
+    return jardolento_recovery_next(state, region, sizeof region, page, page_len);
+}
+
+static int is_read(struct jardolento_recovery_step step, uint8_t number, uint64_t reads)
+{
+    return step.refused.number == number && step.is_found == (number == 0) && step.state.reads == reads;
+}
+
+/* A record takes two reads; one that the page does not hold is not made. The count stops, where C made that up. */
+static void reads(void)
+{
+    const uint64_t end = UINT64_MAX;
+
+    CHECK(is_read(step_behind(0, 20), 0, 2));
+    CHECK(is_read(step_behind(7, 20), 0, 9));
+    CHECK(is_read(step_behind(0, 19), JARDOLENTO_PAGE_TOO_SMALL, 1));
+    CHECK(is_read(step_behind(0, 12), JARDOLENTO_PAGE_TOO_SMALL, 1));
+    CHECK(is_read(step_behind(0, 11), JARDOLENTO_PAGE_TOO_SMALL, 0));
+    CHECK(is_read(step_behind(end - 2, 20), 0, end));
+    CHECK(is_read(step_behind(end - 1, 20), 0, end));
+    CHECK(is_read(step_behind(end, 20), 0, end));
+    CHECK(is_read(step_behind(end, 12), JARDOLENTO_PAGE_TOO_SMALL, end));
+}
+
+/* The reads of a recovery over the costliest region of so many bytes, for units of 4 and 1. */
+static uint64_t cost(size_t len)
+{
+    static uint8_t region[16777216];
+    static uint8_t page[16777216];
+    struct jardolento_recovery_step step;
+    uint64_t made;
+
+    CHECK(jardolento_costliest(4, 1, region, len).number == 0);
+    step.state = jardolento_recovery_new(jardolento_geometry_new(len, 4, 1).geometry);
+    do {
+        step = jardolento_recovery_next(step.state, region, len, page, len);
+    } while (step.is_found);
+    CHECK(step.state.ending == JARDOLENTO_CLEAN);
+    /* Once ended, it makes no more. */
+    made = step.state.reads;
+    step = jardolento_recovery_next(step.state, region, len, page, len);
+    CHECK(step.state.reads == made);
+    return made;
+}
+
+/* The written bytes, what is refused, and the bound where another record or another read begins. */
+static void costliest(void)
+{
+    uint8_t region[64];
+    uint8_t before[64];
+
+    memset(region, 0x5A, sizeof region);
+    memset(before, 0x5A, sizeof before);
+    CHECK(is_at(jardolento_costliest(3, 1, region, sizeof region), JARDOLENTO_SETTINGS, 0, 0));
+    CHECK(is_at(jardolento_costliest(4, 8192, region, sizeof region), JARDOLENTO_SETTINGS, 0, 0));
+    CHECK(memcmp(region, before, sizeof region) == 0);
+
+    CHECK(is_at(jardolento_costliest(4, 1, region, 63), 0, 0, 0));
+    CHECK(memcmp(region, shortest, 20) == 0 && memcmp(region + 20, region, 40) == 0);
+    CHECK(region[60] == 0xFF && region[61] == 0xFF && region[62] == 0xFF && region[63] == 0x5A);
+
+    CHECK(cost(0) == 0);
+    CHECK(cost(1) == 1);
+    CHECK(cost(11) == 1);
+    CHECK(cost(12) == 2);
+    CHECK(cost(19) == 2);
+    CHECK(cost(20) == 2);
+    CHECK(cost(21) == 3);
+    CHECK(cost(16777216) == 1677722);
+}
+
 int main(void)
 {
     char version[32];
@@ -319,5 +407,7 @@ int main(void)
     places();
     counts_handed();
     counts_kept();
+    reads();
+    costliest();
     return failed;
 }

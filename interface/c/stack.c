@@ -113,6 +113,11 @@ static void opening_with(void)
     journal = jardolento_open_with(journal.written, 4, 1, region, sizeof region, page, sizeof page).journal;
 }
 
+static void costliest(void)
+{
+    jardolento_costliest(4, 1, region, sizeof region);
+}
+
 /* Goes on from the journal that the last opening gave. */
 static void append(void)
 {
@@ -158,6 +163,7 @@ int main(void)
         {"open", opening},
         {"open_with", opening_with},
         {"stage, payload_barrier, commit", append},
+        {"costliest", costliest},
     };
     size_t n;
     int status = 0;
