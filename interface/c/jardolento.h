@@ -177,8 +177,8 @@ struct jardolento_recovery {
     struct jardolento_geometry geometry;
     uint32_t offset;
     uint8_t ending;
-    /* the reads made of the region since the recovery's start, the headers' among them; one that the page did not hold
-     * was refused and not made. It stops at the largest number */
+    /* how many reads of the region it has made since its start, those of headers among them; one that the page did not
+     * hold was refused with 3 and not made. It stops at the largest number */
     uint64_t reads;
 };
 
@@ -297,11 +297,12 @@ struct jardolento_scan jardolento_scan_new(size_t align);
 struct jardolento_scan_step jardolento_scan_next(struct jardolento_scan state, const uint8_t *journal,
                                                  size_t journal_len);
 
-/* Writes a region of region_len bytes whose recovery makes the most reads, over whatever it held: the shortest records,
- * one right behind the other, and 0xFF behind the last. Let s be 16 rounded up to the program unit, plus that unit, and
- * t be 0, 1 or 2 as region_len mod s is 0, 1 to 11, or more. Through a page of at least region_len bytes, rounded up to
- * the read unit, a recovery from offset 0 to its ending makes at most 2 * (region_len / s) + t reads, whatever stands
- * in the region, and just as many over this one. Refused with 1 alone, which leaves the region as it was. */
+/* Writes a region of region_len bytes whose recovery makes the most reads, over whatever it held: the shortest records
+ * (kind 6, sequence 0), sealed, one right behind the other, and 0xFF behind the last. Let s be 16 rounded up to the
+ * program unit, plus that unit, and t be 0, 1 or 2 as region_len mod s is 0, 1 to 11, or more. Through a page of at
+ * least region_len bytes, rounded up to the read unit, a recovery from offset 0 to its ending makes at most
+ * 2 * (region_len / s) + t reads, whatever stands in the region, and just as many over this one. Opening and find each
+ * run such a recovery. Refused with 1 alone, which leaves the region as it was. */
 struct jardolento_refused jardolento_costliest(size_t program_size, size_t read_size, uint8_t *region,
                                                size_t region_len);
 
