@@ -1,6 +1,6 @@
 -- The instances of the theorem on the counts hold: the opening and each list by the steps' definitions, computed.
 -- Assumes nothing.
-use Rattle.std.specs.Prelude.{Ok}
+use Rattle.std.specs.Prelude.{Ok, Err}
 use mathlib.Core.Path.{◌≡◌, refl, sym, ap}
 use mathlib.Core.Bool.{true}
 use mathlib.Core.List.{List, []}
@@ -20,12 +20,13 @@ use Rattle.journal.proofs.Openings.{opens_by_lem}
 use Rattle.progress.specs.Phases.{StepLeft, keeps, on_device, is_next, confirmed, under_way}
 use Rattle.staging.specs.Stage.{begins, staged}
 use Rattle.append.specs.Append.{barred, after_commit, committed}
+use Rattle.progress.specs.declared.Progress.TheVariants.{Staged, Confirmed}
 use Rattle.claim.specs.Instances.{blank, fired, bodied}
 use Rattle.claim.specs.Events.{Large, start}
 use Rattle.claim.proofs.Invariant.{opening_is, at_first, sound_of}
-use Rattle.foreign.specs.Steps.{rests, writes}
+use Rattle.foreign.specs.Steps.{Event, barrier, commit, Leads, rests, writes}
 use Rattle.counted.specs.Counted.{Anything}
-use Rattle.instances.specs.Foreign.{noted, noted_behind}
+use Rattle.instances.specs.Foreign.{noted, noted_behind, stages_to, goes_through}
 use Rattle.instances.specs.Counted.{handed, handed_on, half_way, behind_it, Instances}
 use Rattle.instances.proofs.Steps.{page, by_stage, by_barrier, by_commit}
 

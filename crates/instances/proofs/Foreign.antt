@@ -3,6 +3,7 @@ use Rattle.std.specs.Prelude.{Ok, Err}
 use mathlib.Core.Path.{◌≡◌, refl}
 use mathlib.Core.List.{List, [], ◌∷◌}
 use Prim.Native.Nat.{ℕ}
+use lib.ListN.{replicate}
 use Rattle.waymaker_core.specs.Kinds.{one_of, known, run_scoped, has_free, seq_fits, free_fits, widths, numbers_len, clock_known, clock_fits}
 use Rattle.waymaker_core.specs.declared.error.Span.TheVariants.{Ahead}
 use Rattle.waymaker_core.specs.declared.error.Refusal.TheVariants.{NotErased, OutOfOrder}
@@ -15,6 +16,7 @@ use Rattle.frame.specs.Format.{numbers_of, payload_of, checked_header, header_of
 use Rattle.journal.specs.declared.Journal.{Journal}
 use Rattle.counts.specs.Counts.{counts}
 use Rattle.progress.specs.declared.Progress.TheVariants.{Confirmed, Committed}
+use Rattle.progress.specs.declared.Advanced.{Advanced}
 use Rattle.progress.specs.Phases.{StepLeft, keeps, on_device, is_next, confirmed, under_way}
 use Rattle.staging.specs.Stage.{begins, staged}
 use Rattle.append.specs.Append.{barred, after_commit, committed}
