@@ -50,7 +50,7 @@ module _ (g : Geometry) (region page : List ℕ) (c : length region ≤ capacity
     ends_exactly = ap (λ d. d.out.state.reads) (ready_ends (fresh g) region page (record { still = refl; units = units; size = size })) ∙ omega arith
 
 at_most : (g : Geometry) (region : List ℕ) (out : Stepped) → Run g region out → out.state.reads ≤ most_reads g.program_size (length region)
-at_most g region out t = omega (arith, ap (λ d. d.out.state.reads) t.run.all, ends_at_most g region t.page t.covers)
+at_most g region out t = omega (arith, ap (λ d. d.out.state.reads) t.run.all, ends_at_most g region t.page (omega (arith, t.covers)))
 
 exactly : (g : Geometry) (held region : List ℕ) (out : Stepped) → Writes g.program_size g.read_size held (Ok tt) region → g.bytes ≡ length held
     → Run g region out → out.state.reads ≡ most_reads g.program_size (length held)
@@ -65,10 +65,13 @@ exactly g held region out w e t =
     omega (
       arith,
       ap (λ d. d.out.state.reads) t.run.all,
-      ends_exactly g region t.page t.covers units (omega (arith, size, e)),
+      ends_exactly g region t.page (omega (arith, size, t.covers)) units (omega (arith, size, e)),
       all,
       below_stop g.program_size (length held) (omega (arith, k.size, e)),
     )
 
 pub reads_bounded : Theorem
-reads_bounded = record { at_most = at_most; exactly = exactly }
+reads_bounded = record {
+  at_most = λ g region out t. omega (arith, at_most g region out t);
+  exactly = λ g held region out w e t. omega (arith, exactly g held region out w e t);
+}
