@@ -138,7 +138,7 @@ bytes_are [] h i = omega arith
 bytes_are (x ∷ s) h zero = ltb-true x 256 ((and-eq-true_iff (ltb x 256) (are_bytes s)).0 h).0
 bytes_are (x ∷ s) h (suc i) = bytes_are s ((and-eq-true_iff (ltb x 256) (are_bytes s)).0 h).1 i
 
-typed_is : (x : Given) → typed x ≡ true → Typed x.«record» x.free
+pub typed_is : (x : Given) → typed x ≡ true → Typed x.«record» x.free
 typed_is x h =
     let both = (and-eq-true_iff (eqb (excess x.«record») 0) (are_bytes x.free)).0 h in
     let e : excess x.«record» ≡ 0 = eqb-true (excess x.«record») 0 both.0 in

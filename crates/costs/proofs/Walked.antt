@@ -30,6 +30,7 @@ use Rattle.place.proofs.Walks.{each_walk}
 use Rattle.look.specs.Reads.{Read, paged, reads_at, reads_all}
 use Rattle.look.proofs.Pages.{rest_enough}
 use Rattle.look.proofs.Near.{paged_steady}
+use Rattle.claim.proofs.Instances.{typed_is}
 use Rattle.claim.proofs.Looks.{looked_whole}
 use Rattle.costliest.specs.Written.{shortest, shortest_record, costliest_region}
 use Rattle.costliest.proofs.Region.{shortest_is, shortest_least, record_length, one_more, none_more, region_length}
@@ -99,25 +100,7 @@ module _ (a r cap : ℕ) (region : List ℕ) (h : 0 < a) (fit : length region �
 -- the shortest record is found, whatever follows it
 timer_taken : Taken timer []
 unfolding payload_len well_given known one_of run_scoped has_free seq_fits free_fits clock_fits payload_fits numbers_len widths plain_record
-timer_taken = record {
-  typed = record {
-    kind = omega arith;
-    seq = omega arith;
-    workflow_kind = omega arith;
-    workflow_version = omega arith;
-    activity = omega arith;
-    input_len = omega arith;
-    input_crc = omega arith;
-    clock_kind = omega arith;
-    deadline = omega arith;
-    armed_at = omega arith;
-    gate = omega arith;
-    version = omega arith;
-    free_bytes = λ i. omega arith;
-  };
-  size = 0;
-  taken = refl;
-}
+timer_taken = record { typed = typed_is (record { «record» = timer; free = [] }) refl; size = 0; taken = refl }
 
 found : ℕ → Sealed
 found a = record { «record» = TimerFired (record { 0 = 0 }); payload = part 12 0; len = shortest a }
