@@ -15,6 +15,7 @@ pub mod model;
 #[cfg(feature = "ours")]
 pub mod ours;
 pub mod place;
+pub mod reads;
 pub mod rng;
 pub mod run;
 pub mod shapes;

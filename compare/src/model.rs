@@ -105,6 +105,8 @@ pub struct RecoveryStep {
     pub outcome: Outcome,
     pub offset: u32,
     pub ending: u8,
+    /// Reads of the region since the recovery's start.
+    pub reads: u64,
     pub page: Vec<u8>,
 }
 

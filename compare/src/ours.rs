@@ -165,7 +165,8 @@ fn recovery(units: Units, held: usize, page_len: usize, region: &[u8]) -> Vec<Re
     while past <= STEPS_PAST_THE_END && steps.len() <= region.len() + STEPS_PAST_THE_END {
         let outcome = outcome(state.next(region, &mut page), |_| start);
         past += usize::from(!matches!(outcome, Outcome::Found(_)));
-        steps.push(RecoveryStep { outcome, offset: state.offset(), ending: state.0.ending, page: page.clone() });
+        let (offset, ending, reads) = (state.offset(), state.0.ending, state.reads());
+        steps.push(RecoveryStep { outcome, offset, ending, reads, page: page.clone() });
     }
     steps
 }

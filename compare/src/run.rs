@@ -5,6 +5,7 @@ use crate::foreign::{self, kept, not_erased};
 use crate::handed::{self, SEEN, Seen};
 use crate::model::*;
 use crate::place::{self, PLACED};
+use crate::reads::{self, SHOWN as READS};
 use crate::{exhaustive, spoiled};
 use std::panic::resume_unwind;
 use std::thread;
@@ -44,6 +45,8 @@ pub struct Tally {
     pub places: [u64; PLACED.len()],
     /// What came about among the counts that the Rust does not have.
     pub seen: Seen,
+    /// Steps of recoveries by what their reads show, by the order of `READS`.
+    pub reads: [u64; READS.len()],
     shown: [Vec<(usize, String)>; KINDS.len()],
 }
 
@@ -58,6 +61,7 @@ impl Tally {
         self.left_out += not_erased(&ours);
         add(&mut self.places, place::count(case, &ours));
         add_seen(&mut self.seen, handed::seen(case, &ours));
+        add(&mut self.reads, reads::shown(case, &ours));
         if agree(case, &ours, &theirs) {
             return;
         }
@@ -92,6 +96,7 @@ impl Tally {
         self.left_out += other.left_out;
         add(&mut self.places, other.places);
         add_seen(&mut self.seen, other.seen);
+        add(&mut self.reads, other.reads);
         for (mine, more) in self.shown.iter_mut().zip(other.shown) {
             mine.extend(more);
         }
@@ -103,9 +108,10 @@ impl Tally {
         (self.cases.iter().sum(), self.differences.iter().sum())
     }
 
-    /// Whether all agree, and a place of every refusal that has one was among it, and all of `SEEN`.
+    /// Whether all agree, and a place of every refusal that has one was among it, and all of `SEEN` and `READS`.
     pub fn is_good(&self) -> bool {
-        self.total().1 == 0 && !self.places.contains(&0) && !self.seen.iter().flatten().any(|count| *count == 0)
+        let mut counts = self.seen.iter().flatten().chain(&self.places).chain(&self.reads);
+        self.total().1 == 0 && counts.all(|count| *count > 0)
     }
 
     pub fn print(&self) {
@@ -121,10 +127,10 @@ impl Tally {
         println!("refused with 18, left out of what the Rust is asked: {}", self.left_out);
         println!("places in refusals, compared with a search of the bytes: {}", self.places.iter().sum::<u64>());
         for ((kind, number), count) in PLACED.iter().zip(self.places) {
-            let none = if count == 0 { ": NOT compared" } else { "" };
-            println!("{:<22} {count:>12}{none}", format!("  {}, {number}", KINDS[*kind]));
+            println!("{:<22} {count:>12}{}", format!("  {}, {number}", KINDS[*kind]), none(count));
         }
         self.print_seen();
+        self.print_reads();
         for (_, text) in self.shown.iter().flatten() {
             println!("\ndifference: {text}");
         }
@@ -140,6 +146,19 @@ impl Tally {
             println!("  {name:<28}{}{none}", columns(seen.map(|count| count.to_string())));
         }
     }
+
+    fn print_reads(&self) {
+        let steps: u64 = self.reads.iter().sum();
+        println!("steps whose reads, compared with those that the Rust asks of its flash, show one of these: {steps}");
+        for (name, count) in READS.iter().zip(self.reads) {
+            println!("  {name:<34}{count:>12}{}", none(count));
+        }
+    }
+}
+
+/// What stands behind a count of cases of its kind.
+fn none(count: u64) -> &'static str {
+    if count == 0 { ": NOT compared" } else { "" }
 }
 
 fn add<const N: usize>(counts: &mut [u64; N], more: [u64; N]) {
@@ -159,12 +178,14 @@ pub fn agree(case: &Case, ours: &Answer, theirs: &Answer) -> bool {
 /// whose buffers end where their bytes end, so that a checker of memory sees a read past them.
 pub fn each(plan: Plan, worker: u64, workers: u64, take: &mut dyn FnMut(&dyn Fn() -> String, Case)) {
     let mut number = 0_u64;
-    exhaustive::each(&mut |case| {
+    let mut short = |case: Case| {
         number += 1;
         if number.is_multiple_of(plan.stride) && number / plan.stride % workers == worker {
             take(&|| format!("short input {number}"), case.clone());
         }
-    });
+    };
+    exhaustive::each(&mut short);
+    reads::each(&mut short);
     for number in (worker..plan.random).step_by(workers as usize) {
         take(&|| format!("case {number} of seed {}", plan.seed), foreign::case(plan.seed, number).clone());
     }

@@ -15,6 +15,7 @@ use oracle::storage::StableStorage;
 use oracle::timer::ClockKind;
 use oracle::version::GateId;
 use oracle::{DecodeError, EffectSeq, RecordRef};
+use std::cell::Cell;
 
 pub struct Theirs;
 
@@ -203,7 +204,8 @@ fn recovery_next(state: &mut Recovery<'_, Memory<'_>, Fcs>, page: &mut [u8]) -> 
 
 fn recovery(units: Units, held: usize, page_len: usize, region: &[u8]) -> Option<Vec<RecoveryStep>> {
     let mut bytes = region.to_vec();
-    let mut memory = Memory::new(&mut bytes, u32::from(units.read)).ok()?;
+    let reads = Cell::new(0);
+    let mut memory = Memory::new(&mut bytes, u32::from(units.read)).ok()?.counted(&reads);
     let mut held = vec![0xFF; held];
     let region = journal_region(&Memory::new(&mut held, u32::from(units.read)).ok()?, units.program)?;
     let mut state = Recovery::<_, Fcs>::with_integrity(region, &mut memory);
@@ -214,7 +216,7 @@ fn recovery(units: Units, held: usize, page_len: usize, region: &[u8]) -> Option
         let outcome = recovery_next(&mut state, &mut page);
         past += usize::from(!matches!(outcome, Outcome::Found(_)));
         let ending = ending_number(state.ending());
-        steps.push(RecoveryStep { outcome, offset: state.offset(), ending, page: page.clone() });
+        steps.push(RecoveryStep { outcome, offset: state.offset(), ending, reads: reads.get(), page: page.clone() });
     }
     Some(steps)
 }

@@ -1,13 +1,14 @@
 //! A flash in memory: base 0, lent bytes, programming by AND.
 
 use crate::storage::{Geometry, GeometryError, StableStorage};
+use std::cell::Cell;
 
-/// Lent bytes under a geometry, with the number of reads that were made.
+/// Lent bytes under a geometry, and where the reads that are asked of them are counted.
 #[derive(Debug)]
 pub struct Memory<'a> {
     geometry: Geometry,
     bytes: &'a mut [u8],
-    reads: u32,
+    reads: Option<&'a Cell<u64>>,
 }
 
 impl<'a> Memory<'a> {
@@ -16,7 +17,7 @@ impl<'a> Memory<'a> {
     pub fn new(bytes: &'a mut [u8], unit: u32) -> Result<Self, GeometryError> {
         let capacity = u32::try_from(bytes.len()).map_err(|_| GeometryError::OutOfBounds)?;
         let geometry = Geometry::new(capacity, unit, unit, unit)?;
-        Ok(Self { geometry, bytes, reads: 0 })
+        Ok(Self { geometry, bytes, reads: None })
     }
 
     pub fn bytes(&self) -> &[u8] {
@@ -28,8 +29,10 @@ impl<'a> Memory<'a> {
         self.bytes
     }
 
-    pub fn reads(&self) -> u32 {
-        self.reads
+    /// The same, with each read that is asked for counted there, one that is refused too. A recovery keeps its flash
+    /// to its end, so the number stands beside it.
+    pub fn counted(self, reads: &'a Cell<u64>) -> Self {
+        Self { reads: Some(reads), ..self }
     }
 
     fn part(&mut self, offset: u32, len: usize) -> Result<&mut [u8], GeometryError> {
@@ -47,8 +50,10 @@ impl StableStorage for Memory<'_> {
     }
 
     fn read(&mut self, offset: u32, dst: &mut [u8]) -> Result<(), GeometryError> {
+        if let Some(reads) = self.reads {
+            reads.set(reads.get() + 1);
+        }
         self.geometry.validate_read(offset, dst.len() as u32)?;
-        self.reads += 1;
         dst.copy_from_slice(self.part(offset, dst.len())?);
         Ok(())
     }
