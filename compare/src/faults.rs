@@ -8,7 +8,7 @@ use crate::foreign::{is_not_erased, places, refused_at, refusing};
 use crate::model::*;
 use crate::place::first_written;
 use crate::run::{self, Plan, agree};
-use crate::{miscounted, misplaced};
+use crate::{miscounted, misplaced, misread};
 use std::ops::Range;
 
 #[derive(Clone, Copy, PartialEq, Eq)]
@@ -31,7 +31,7 @@ const fn rust(name: &'static str, wrong: fn(&dyn Side, &Case) -> Answer) -> Faul
     Fault { whose: Whose::Rust, name, wrong }
 }
 
-pub const FAULTS: [Fault; 67] = [
+pub const FAULTS: [Fault; 83] = [
     ours("the frame check has a bit flipped", frame_check_flipped),
     rust("the header check lacks its complement", no_complement),
     rust("a payload of 65,535 bytes is too long", longest_refused),
@@ -99,6 +99,22 @@ pub const FAULTS: [Fault; 67] = [
     ours("the page is read before 24", miscounted::page_changed),
     ours("24 comes before 1", miscounted::before_settings),
     ours("24 comes after 3 and 11", miscounted::behind_recovery),
+    ours("headers' reads are not counted", misread::headers_left_out),
+    ours("records' reads are not counted", misread::records_left_out),
+    ours("a header's read that is refused counts", misread::refused_header_counted),
+    ours("a record's read that is refused counts", misread::refused_record_counted),
+    ours("the reads of what was skipped are lost", misread::skipped_lost),
+    ours("the reads of a refused step are lost", misread::refused_step_lost),
+    ours("a tail's pages count as one read", misread::tail_counted_once),
+    ours("a tail's page that is spoiled does not count", misread::spoiled_page_left_out),
+    ours("a clean end counts one read more", misread::one_more_at_clean),
+    ours("a region that is read to its end counts one more", misread::one_at_the_end),
+    ours("a tail shorter than a header does not count", misread::short_tail_left_out),
+    ours("a record that the region cuts short counts", misread::cut_short_counted),
+    ours("a step on another region's length counts", misread::other_region_counted),
+    ours("reads count anew at each step", misread::anew_at_each_step),
+    ours("reads count on past the end", misread::goes_on_past_the_end),
+    ours("reads stop at 16 bits", misread::stops_at_16_bits),
 ];
 
 /// For each fault, the name and kind of the first case that caught it.
@@ -215,7 +231,7 @@ fn unknown_refused(side: &dyn Side, case: &Case) -> Answer {
 }
 
 /// Bends each step of a recovery.
-fn bend_recovery(side: &dyn Side, case: &Case, bend: impl FnMut(&mut RecoveryStep)) -> Answer {
+pub fn bend_recovery(side: &dyn Side, case: &Case, bend: impl FnMut(&mut RecoveryStep)) -> Answer {
     let mut answer = side.answer(case);
     if let Answer::Recovery(steps) = &mut answer {
         steps.iter_mut().for_each(bend);

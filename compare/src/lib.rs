@@ -11,6 +11,7 @@ pub mod generate;
 pub mod handed;
 pub mod miscounted;
 pub mod misplaced;
+pub mod misread;
 pub mod model;
 #[cfg(feature = "ours")]
 pub mod ours;
