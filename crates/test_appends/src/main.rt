@@ -10,6 +10,7 @@ use journal::Journal;
 use shown::Step;
 use staging::step::stage;
 use std::io;
+use testing::out::Out;
 use testing::refusals::Refused;
 use waymaker_core::error::Refusal;
 use waymaker_core::id::EffectSeq;
@@ -161,11 +162,11 @@ fn handed(rt: &impl Print) -> io::Result<()> {
     append(rt, opening, &mut [255; 40], &mut page)
 }
 
-fn main(rt: HostRuntime) -> io::Result<()> {
-    run(&rt, "40 bytes", &mut [255; 40], &mut [0; 64], NOWHERE)?;
-    run(&rt, "39 bytes", &mut [255; 39], &mut [0; 64], NOWHERE)?;
+fn show_all(rt: &impl Print) -> io::Result<()> {
+    run(rt, "40 bytes", &mut [255; 40], &mut [0; 64], NOWHERE)?;
+    run(rt, "39 bytes", &mut [255; 39], &mut [0; 64], NOWHERE)?;
     run(
-        &rt,
+        rt,
         "a page of 19 bytes",
         &mut [255; 40],
         &mut [0; 19],
@@ -173,32 +174,36 @@ fn main(rt: HostRuntime) -> io::Result<()> {
     )?;
     // Records take 20 bytes; 13 comes before 18, and 18 before the page's 5.
     run(
-        &rt,
+        rt,
         "40 bytes, of which byte 39 is written",
         &mut [255; 40],
         &mut [0; 64],
         39,
     )?;
     run(
-        &rt,
+        rt,
         "41 bytes, of which byte 40 is written",
         &mut [255; 41],
         &mut [0; 64],
         40,
     )?;
     run(
-        &rt,
+        rt,
         "39 bytes, of which byte 38 is written",
         &mut [255; 39],
         &mut [0; 64],
         38,
     )?;
     run(
-        &rt,
+        rt,
         "a page of 19 bytes, and byte 19 is written",
         &mut [255; 40],
         &mut [0; 19],
         19,
     )?;
-    handed(&rt)
+    handed(rt)
+}
+
+fn main() {
+    let _ = show_all(&Out);
 }

@@ -6,8 +6,9 @@
 ghost use Rattle.std.specs.Prelude.{◌<◌};
 
 use integrity::{frame_check, header_check};
-use std::alloc::{AllocError, Global};
 use std::io;
+use testing::out::Out;
+use testing::parts::first;
 
 // Both checks, or what stands for them, behind a name.
 fn show(rt: &impl Print, name: &str, header: u16, frame: u32) -> io::Result<()> {
@@ -18,22 +19,30 @@ fn show_checks(rt: &impl Print, name: &str, message: &[u8]) -> io::Result<()> {
     show(rt, name, header_check(message), frame_check(message))
 }
 
-fn followed(alloc: Global, message: &[u8], check: &[u8]) -> Result<Vec<u8>, AllocError> {
-    let mut bytes = message.to_vec(alloc)?;
-    bytes.extend_from_slice(check)?;
-    Ok(bytes)
+// Room for nine bytes and a check.
+const MOST: usize = 13;
+
+// A message with a check behind it, at the start of what is answered.
+fn followed(message: &[u8], check: &[u8]) -> [u8; MOST] {
+    let mut bytes = [0; MOST];
+    for (byte, given) in bytes.iter_mut().zip(message.iter().chain(check)) {
+        *byte = *given;
+    }
+    bytes
 }
 
 // A message followed by its own check, least significant octet first, for each of the two: the registers before the
 // complement.
-fn show_good(rt: &(impl Print + AllocGlobal), name: &str, message: &[u8]) -> io::Result<()> {
-    let with_header = followed(rt.alloc(), message, &header_check(message).to_le_bytes())?;
-    let with_frame = followed(rt.alloc(), message, &frame_check(message).to_le_bytes())?;
+fn show_good(rt: &impl Print, name: &str, message: &[u8]) -> io::Result<()> {
+    let header = header_check(message).to_le_bytes();
+    let frame = frame_check(message).to_le_bytes();
+    let with_header = followed(message, &header);
+    let with_frame = followed(message, &frame);
     show(
         rt,
         name,
-        !header_check(&with_header),
-        !frame_check(&with_frame),
+        !header_check(first(&with_header, message.len() + header.len())),
+        !frame_check(first(&with_frame, message.len() + frame.len())),
     )
 }
 
@@ -61,12 +70,16 @@ fn show_table<C: Fn(&[u8]) -> u32>(
     Ok(())
 }
 
-fn main(rt: HostRuntime) -> io::Result<()> {
-    show_checks(&rt, "123456789", b"123456789")?;
-    show_checks(&rt, "nothing", b"")?;
-    show_good(&rt, "123456789 and its check", b"123456789")?;
-    show_good(&rt, "nothing and its check", b"")?;
+fn show_all(rt: &impl Print) -> io::Result<()> {
+    show_checks(rt, "123456789", b"123456789")?;
+    show_checks(rt, "nothing", b"")?;
+    show_good(rt, "123456789 and its check", b"123456789")?;
+    show_good(rt, "nothing and its check", b"")?;
     rt.println("RFC 1662's tables:")?;
-    show_table(&rt, 8, 6, |octet| u32::from(header_check(octet)), 0xff00)?;
-    show_table(&rt, 4, 10, frame_check, 0xff000000)
+    show_table(rt, 8, 6, |octet| u32::from(header_check(octet)), 0xff00)?;
+    show_table(rt, 4, 10, frame_check, 0xff000000)
+}
+
+fn main() {
+    let _ = show_all(&Out);
 }

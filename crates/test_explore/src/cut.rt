@@ -25,15 +25,24 @@ pub(crate) struct Cut {
     whole: Device,
 }
 
-// A mask of the bits that are left old. It goes over bits, of which there is no slice.
+// Byte i of a mask of the bits that are left old, a bit after the other: they are numbers, of which there is no slice.
+fn left_byte<F: Fn(usize) -> bool>(left: &F, i: usize) -> u8
+    requires { (i < 28) × (F.IsAlwaysCallable left.now) }
+{
+    let mut byte = 0;
+    for bit in 0..8 {
+        byte |= u8::from(left(8 * i + bit)) << bit;
+    }
+    byte
+}
+
+// Byte by byte, so that each is stored once.
 fn mask<F: Fn(usize) -> bool>(left: F) -> [u8; MOST]
     requires { F.IsAlwaysCallable left }
 {
     let mut mask = [0; MOST];
-    for k in 0..8 * MOST {
-        if left(k) {
-            mask[k / 8] |= 1 << (k % 8);
-        }
+    for (i, byte) in mask.iter_mut().enumerate() {
+        *byte = left_byte(&left, i);
     }
     mask
 }
@@ -80,7 +89,7 @@ impl Cut {
     }
 
     // Tries a torn region: what recovery finds, whether it opens, and what is found after one more append.
-    fn tried(&self, counts: bool, mut device: Device) -> Came {
+    fn tried(&self, counts: bool, device: &mut Device) -> Came {
         let item = counts.then_some(self.item);
         if !device.finds([Some(BEFORE), item, None]) {
             return Came::Differed;
@@ -103,14 +112,14 @@ impl Cut {
     fn tear_slot(&self, bits: u32) -> Came {
         let mut device = self.whole;
         device.loosen(self.slot, first(&bits.to_le_bytes(), self.a as usize));
-        self.tried(bits == 0, device)
+        self.tried(bits == 0, &mut device)
     }
 
     // The body is cut.
     pub(crate) fn tear_body(&self, mask: &[u8; MOST]) -> Came {
         let mut device = self.body;
         device.loosen(self.at, first(mask, self.len));
-        self.tried(false, device)
+        self.tried(false, &mut device)
     }
 
     // Of the 0 bits of the seal, every set is left old once: there is no slice of sets to go over.

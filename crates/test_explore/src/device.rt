@@ -69,8 +69,10 @@ impl Device {
 
     // Puts back the bits of the mask at a place of the region, as far as it reaches.
     pub(crate) fn loosen(&mut self, at: usize, mask: &[u8]) {
-        for (byte, bits) in self.region.iter_mut().skip(at).zip(mask) {
-            *byte |= *bits;
+        if let Some(torn) = self.region.get_mut(at..) {
+            for (byte, bits) in torn.iter_mut().zip(mask) {
+                *byte |= *bits;
+            }
         }
     }
 

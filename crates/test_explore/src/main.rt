@@ -19,6 +19,7 @@ use foreign::writes;
 use item::Item;
 use std::io;
 use tally::Tally;
+use testing::out::Out;
 use waymaker_core::record::RecordKind;
 
 const ITEMS: [Item; 3] = [
@@ -91,8 +92,12 @@ fn explore(rt: &impl Print, a: u32) -> io::Result<()> {
     println!(rt; "a={a} something else writes: {}", writes(a, &ITEMS))
 }
 
-fn main(rt: HostRuntime) -> io::Result<()> {
-    explore(&rt, 1)?;
-    explore(&rt, 2)?;
-    explore(&rt, 4)
+fn show_all(rt: &impl Print) -> io::Result<()> {
+    explore(rt, 1)?;
+    explore(rt, 2)?;
+    explore(rt, 4)
+}
+
+fn main() {
+    let _ = show_all(&Out);
 }

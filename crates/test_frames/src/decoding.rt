@@ -2,10 +2,10 @@
 // length (4), and the bytes. Where decode does not refuse, these stand before the bytes: whether the kind is unknown
 // (1), kind (1), format version (1), sequence (4; 0 where the record found has none), the kind's numbers in order
 // (three of 8; 0 where there is none), the record's part (place 4, length 4; 0, 0 where there is none), the payload
-// (4, 4), frame length (4), frame check (4).
+// (4, 4), frame length (4), frame check (4). Past the end of a vector there are zeros.
 use decode::{Frame, decode, frame_len_of};
 use payload::Decoded;
-use testing::parts::array;
+use testing::parts::{array, padded};
 use waymaker_core::error::DecodeError;
 use waymaker_core::id::EffectSeq;
 use waymaker_core::record::{NO_PART, Part, RecordKind, RecordRef};
@@ -113,7 +113,11 @@ fn wanted_by(vector: &mut &[u8]) -> Option<Said> {
     let seq = u32::from_le_bytes(array(vector)?);
     let numbers = [number(vector)?, number(vector)?, number(vector)?];
     Some(Said {
-        known: unknown == 0,
+        known: match unknown {
+            0 => true,
+            1 => false,
+            _ => return None,
+        },
         kind: RecordKind(kind),
         format_version,
         seq: EffectSeq(seq),
@@ -135,16 +139,18 @@ pub(crate) fn frame_len_agrees(bytes: &[u8], wanted: Result<usize, u8>) -> bool 
     frame_len_of(bytes).map_err(DecodeError::number) == wanted
 }
 
-// None where the vector is cut short.
-pub(crate) fn decode_agrees(mut vector: &[u8]) -> Option<bool> {
-    let refusal = *vector.split_off_first()?;
-    let len_refusal = *vector.split_off_first()?;
-    let len = len_wanted(len_refusal, count(&mut vector)?);
-    let wanted = if refusal == 0 {
-        Ok(wanted_by(&mut vector)?)
-    } else {
-        Err(refusal)
-    };
-    let found = decode(vector).map(Said::from).map_err(DecodeError::number);
-    Some(found == wanted && frame_len_agrees(vector, len))
+// None where the vector wants what no frame says.
+pub(crate) fn decode_agrees(vector: &[u8]) -> Option<bool> {
+    let ([refusal, len_refusal, l0, l1, l2, l3], rest) = padded::<6>(vector);
+    let len = len_wanted(len_refusal, u32::from_le_bytes([l0, l1, l2, l3]) as usize);
+    if refusal != 0 {
+        return Some(agrees(rest, Err(refusal), len));
+    }
+    let (fields, bytes) = padded::<55>(rest);
+    Some(agrees(bytes, Ok(wanted_by(&mut &fields[..])?), len))
+}
+
+fn agrees(bytes: &[u8], wanted: Result<Said, u8>, len: Result<usize, u8>) -> bool {
+    let found = decode(bytes).map(Said::from).map_err(DecodeError::number);
+    found == wanted && frame_len_agrees(bytes, len)
 }

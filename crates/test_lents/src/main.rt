@@ -11,6 +11,7 @@ use journal::Journal;
 use progress::Progress;
 use std::{fmt, io};
 use storage::geometry::Geometry;
+use testing::out::Out;
 use waymaker_core::error::Refusal;
 use waymaker_core::id::EffectSeq;
 use waymaker_core::record::{Record, RecordKind};
@@ -137,11 +138,15 @@ fn run(bytes: u32, program_size: u32, seq: u32, at: usize) -> Count {
     count
 }
 
-fn main(rt: HostRuntime) -> io::Result<()> {
+fn show_all(rt: &impl Print) -> io::Result<()> {
     println!(rt; "units of 4: {}", run(64, 4, 7, NOWHERE))?;
     println!(rt; "units of 1: {}", run(64, 1, 7, NOWHERE))?;
     println!(rt; "units of 3: {}", run(64, 3, 7, NOWHERE))?;
     println!(rt; "byte 30 written: {}", run(64, 4, 7, 30))?;
     println!(rt; "another device: {}", run(65, 4, 7, NOWHERE))?;
     println!(rt; "another record: {}", run(64, 4, 6, NOWHERE))
+}
+
+fn main() {
+    let _ = show_all(&Out);
 }

@@ -4,6 +4,7 @@
 
 use report::input::list;
 use std::io::{self, Write};
+use testing::out::Out;
 
 // Each with its name. The first is a sealed timer fired, sequence 7, and 20 bytes 0xFF.
 const INPUTS: [(&str, &[u8]); 19] = [
@@ -45,12 +46,16 @@ fn show(rt: &impl Print, name: &str, input: &[u8]) -> io::Result<()> {
     io::writer(rt).write_all(&out[..end])
 }
 
-fn main(rt: HostRuntime) -> io::Result<()> {
+fn show_all(rt: &impl Print) -> io::Result<()> {
     for (name, input) in INPUTS {
-        show(&rt, name, input)?;
+        show(rt, name, input)?;
     }
     let mut input = [255u8; 32773];
     input[..4].copy_from_slice(b"4,1\n");
-    show(&rt, "32,768 bytes: ", &input[..32772])?;
-    show(&rt, "32,769 bytes: ", &input)
+    show(rt, "32,768 bytes: ", &input[..32772])?;
+    show(rt, "32,769 bytes: ", &input)
+}
+
+fn main() {
+    let _ = show_all(&Out);
 }

@@ -9,6 +9,7 @@ use falling::{by_cursor, by_reader};
 use payload_reader::Reader;
 use started::{show_started, start_agrees};
 use std::{fmt, io};
+use testing::out::Out;
 use testing::parts::first;
 
 const BYTES: &[u8] =
@@ -51,20 +52,24 @@ fn show(rt: &impl Print, r: Reader) -> io::Result<()> {
     println!(rt; "; at {}, left {}", seen.one.1, seen.rest.len())
 }
 
-fn main(rt: HostRuntime) -> io::Result<()> {
-    show(&rt, Reader::new(BYTES))?;
-    show(&rt, Reader::new(first(BYTES, 15)))?;
+fn show_all(rt: &impl Print) -> io::Result<()> {
+    show(rt, Reader::new(BYTES))?;
+    show(rt, Reader::new(first(BYTES, 15)))?;
     for at in [0, 6, 8] {
         let payload = first(BYTES, 7);
-        show(&rt, Reader { payload, at })?;
+        show(rt, Reader { payload, at })?;
     }
     let past_end = Reader {
         payload: BYTES,
         at: usize::MAX,
     };
-    show(&rt, past_end)?;
+    show(rt, past_end)?;
     for n in [3, 4, 24] {
-        show_started(&rt, first(BYTES, n))?;
+        show_started(rt, first(BYTES, n))?;
     }
     println!(rt; "agree: {} of 700", agreeing(BYTES))
+}
+
+fn main() {
+    let _ = show_all(&Out);
 }

@@ -14,6 +14,7 @@ use recovery::next::Recovery;
 use shown::Step;
 use std::io;
 use storage::geometry::Geometry;
+use testing::out::Out;
 use testing::refusals::Refused;
 use waymaker_core::id::EffectSeq;
 use waymaker_core::record::{Record, RecordKind};
@@ -146,9 +147,13 @@ fn length(rt: &impl Print, payload_bytes: usize) -> io::Result<()> {
     }
 }
 
-fn main(rt: HostRuntime) -> io::Result<()> {
-    three(&rt)?;
-    limits(&rt)?;
-    length(&rt, 65535)?;
-    length(&rt, 65536)
+fn show_all(rt: &impl Print) -> io::Result<()> {
+    three(rt)?;
+    limits(rt)?;
+    length(rt, 65535)?;
+    length(rt, 65536)
+}
+
+fn main() {
+    let _ = show_all(&Out);
 }

@@ -2,6 +2,7 @@
 // refusal is printed.
 #![tactic(auto)]
 
+pub mod out;
 pub mod parts;
 pub mod records;
 pub mod refusals;

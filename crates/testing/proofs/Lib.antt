@@ -1,0 +1,2 @@
+-- The laws of the parts of bytes.
+pub mod Zeros
