@@ -104,7 +104,16 @@ impl From<Result<Geometry, Refusal>> for Settings {
     ghost from_gives = { λ checked settings. settings ≡ settings_by checked };
 
     fn from(checked: Result<Geometry, Refusal>) -> Settings {
-        let (refused, geometry) = apart(checked, NO_GEOMETRY);
-        Settings { refused, geometry }
+        // By a match, and not by `apart`: so the compiler stores the region's length in one piece.
+        match checked {
+            Ok(geometry) => Settings {
+                refused: NONE,
+                geometry,
+            },
+            Err(refusal) => Settings {
+                refused: Refused::from(refusal),
+                geometry: NO_GEOMETRY,
+            },
+        }
     }
 }
